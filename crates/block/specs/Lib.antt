@@ -1,0 +1,10 @@
+pub mod Bits
+pub mod Block
+pub mod Extent
+pub mod Faults
+pub mod Formed
+pub mod Lattice
+pub mod Packed
+pub mod Raster
+pub mod Refusals
+pub mod Window
