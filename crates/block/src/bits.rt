@@ -1,6 +1,6 @@
 // Bit fields in a row of bytes, the most significant bit first.
 ghost use mathlib.Core.Path.{_≡_};
-ghost use Prim.Native.Nat.{_^_, _<_, min};
+ghost use Prim.Native.Nat.{_^_, _<_, _≤_, min};
 ghost use lib.ListN.{getD};
 ghost use Rattle.block.specs.Bits.{field, five, number-of};
 
@@ -12,7 +12,14 @@ pub fn bits(bytes: &[u8], start: usize, width: u32) -> u32
     ensures answer { λ r. ⌜ r ≡ field (now (bytes .entry)) start (min width 32) ⌝ }
     ensures bound { λ r. ⌜ r < 2 ^ min width 32 ⌝ }
 {
-    let width = width.min(32);
+    cut_out(bytes, start, width.min(32))
+}
+
+fn cut_out(bytes: &[u8], start: usize, width: u32) -> u32
+    requires { ⌜ width ≤ 32 ⌝ }
+    ensures answer { λ r. ⌜ r ≡ field (now (bytes .entry)) start width ⌝ }
+    ensures bound { λ r. ⌜ r < 2 ^ width ⌝ }
+{
     let behind = WORD - (start % 8) as u32 - width;
     let ones = (1u64 << width) - 1;
     ((word(bytes, start / 8) >> behind) & ones) as u32

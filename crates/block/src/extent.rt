@@ -12,14 +12,14 @@ const LONGEST: u32 = 1024;
 
 // Three sizes from 1 to 1,024. Each is held less one and read as ten bits, so that no value of the type is out of limits.
 #[derive(Clone, Copy)]
-pub struct Extent {
+pub(crate) struct Extent {
     x: u16,
     y: u16,
     z: u16,
 }
 
 impl Extent {
-    pub fn new(sizes: Sizes) -> Option<Extent>
+    pub(crate) fn new(sizes: Sizes) -> Option<Extent>
         ensures answer { λ r. ⌜ Cases r (all-allowed sizes ≡ false) (λ e. (all-allowed sizes ≡ true) × (sizes-of e ≡ sizes)) ⌝ }
     {
         if !is_allowed(sizes.x) || !is_allowed(sizes.y) || !is_allowed(sizes.z) {
@@ -40,7 +40,7 @@ impl Extent {
         Extent { x, y, z }
     }
 
-    pub fn sizes(&self) -> Sizes
+    pub(crate) fn sizes(&self) -> Sizes
         ensures answer { λ r. ⌜ r ≡ sizes-of (now (self .entry)) ⌝ }
     {
         Sizes {
@@ -50,7 +50,7 @@ impl Extent {
         }
     }
 
-    pub fn contains(&self, p: Point) -> bool
+    pub(crate) fn contains(&self, p: Point) -> bool
         ensures answer { λ r. ⌜ r ≡ inside (sizes-of (now (self .entry))) p ⌝ }
     {
         let n = self.sizes();
@@ -58,7 +58,7 @@ impl Extent {
     }
 
     // How many points there are.
-    pub fn count(&self) -> usize
+    pub(crate) fn count(&self) -> usize
         ensures answer { λ r. ⌜ r ≡ count (sizes-of (now (self .entry))) ⌝ }
         ensures small { λ r. ⌜ r ≤ 2 ^ 30 ⌝ }
     {

@@ -1,6 +1,6 @@
 // Sampled blocks, and the sources that tell them.
 pub mod bits;
-pub mod extent;
+mod extent;
 pub mod fault;
 pub mod lattice;
 pub mod packed;
