@@ -8,7 +8,7 @@ use Rattle.std.specs.declared.result.Result.the-variants.{Ok, Err}
 use Rattle.block.specs.declared.fault.Fault.{Fault}
 use Rattle.block.specs.declared.lattice.Point.{Point}
 use Rattle.block.specs.declared.refusal.Refusal.{Refusal}
-use Rattle.block.specs.declared.refusal.Refusal.the-variants.{RasterSize, Length, SpareBit, Window, Level, Faulty, OnLevel}
+use Rattle.block.specs.declared.refusal.Refusal.the-variants.{RasterSize, Length, SpareBit, Window, Level, NoCell, Faulty, OnLevel}
 
 pub record Told : Type 0 where
   pub number : ℕ
@@ -24,6 +24,7 @@ told Length = plain 2
 told SpareBit = plain 3
 told Window = plain 4
 told Level = plain 5
+told NoCell = plain 7
 told (Faulty f) = record { number = 10; fault = Some f; point = None }
 told (OnLevel p) = record { number = 11; fault = None; point = Some p }
 

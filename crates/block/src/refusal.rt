@@ -21,6 +21,8 @@ pub enum Refusal {
     Window,
     // The level passes its limits.
     Level,
+    // The position is no cell of the block.
+    NoCell,
     // The first corner that does not serve answers this fault.
     Faulty(Fault),
     // The first corner that does not serve, this one, meets the level.
@@ -37,6 +39,7 @@ impl Refusal {
             Refusal::SpareBit => 3,
             Refusal::Window => 4,
             Refusal::Level => 5,
+            Refusal::NoCell => 7,
             Refusal::Faulty(_) => 10,
             Refusal::OnLevel(_) => 11,
         }
