@@ -32,3 +32,8 @@ told (OnLevel p) = record { number = 11; fault = None; point = Some p }
 abbrev pub Outcome : {A : Type 0} → Option Told → (A → Type 0) → Result A Refusal → Type 0
 Outcome declined P (Ok x) = (declined ≡ None) × P x
 Outcome declined P (Err e) = declined ≡ Some (told e)
+
+-- the first of two refusals, if any
+abbrev pub or-else : Option Told → Option Told → Option Told
+or-else (Some t) u = Some t
+or-else None u = u

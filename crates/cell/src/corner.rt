@@ -2,12 +2,12 @@
 ghost use mathlib.Core.Path.{_≡_};
 ghost use Rattle.block.specs.Refusals.{Outcome};
 ghost use Rattle.cell.specs.Corner.{corner-declined, corner-height};
+use crate::level::Height;
+use crate::level::Level;
 use block::lattice::Point;
 use block::refusal::Refusal;
 use block::refusal::RefusalFromFault;
 use block::source::Source;
-use crate::level::Height;
-use crate::level::Level;
 
 // The height at a lattice point, unless the point answers a fault or meets the level.
 pub fn height_at<S: Source>(source: &S, level: Level, at: Point) -> Result<Height, Refusal>

@@ -45,6 +45,7 @@ impl Cut {
     // How many segments there are.
     pub fn count(&self) -> usize
         ensures answer { λ r. ⌜ r ≡ length (segments-in (now (self .entry))) ⌝ }
+        ensures few { λ r. ⌜ r ≤ 4 ⌝ }
     {
         match self {
             Cut::Uncut => 0,

@@ -1,12 +1,12 @@
 // A vertex of a contour or a shell, and its exact coordinates.
 ghost use mathlib.Core.Path.{_≡_};
 ghost use Rattle.std.specs.declared.option.Option.the-variants.{Some};
-ghost use Rattle.cell.specs.Vertex.{coordinates, coordinate};
-use block::lattice::Point;
+ghost use Rattle.cell.specs.Vertex.{coordinates, coordinate, on-edge, in-face};
 use crate::crossing::Offset;
-use std::fmt;
+use block::lattice::Point;
 use block::lattice::PointDebug;
 use block::lattice::PointPartialEq;
+use std::fmt;
 
 #[derive(Clone, Copy, PartialEq, Eq, Debug)]
 pub enum Axis {
@@ -39,6 +39,76 @@ pub struct Vertex {
     pub z: Offset,
 }
 
+// What an axis without an offset has.
+const NONE: Offset = Offset {
+    numerator: 0,
+    denominator: 0,
+};
+
+impl Vertex {
+    // The crossing of the edge along `axis` from `point`, at an offset from there.
+    pub fn on_edge(axis: Axis, point: Point, offset: Offset) -> Vertex
+        ensures answer { λ r. ⌜ r ≡ on-edge axis point offset ⌝ }
+    {
+        let place = Place {
+            form: Some(Form::Edge),
+            axis: Some(axis),
+            point,
+        };
+        match axis {
+            Axis::X => Vertex {
+                place,
+                x: offset,
+                y: NONE,
+                z: NONE,
+            },
+            Axis::Y => Vertex {
+                place,
+                x: NONE,
+                y: offset,
+                z: NONE,
+            },
+            Axis::Z => Vertex {
+                place,
+                x: NONE,
+                y: NONE,
+                z: offset,
+            },
+        }
+    }
+
+    // The centre of the face with the normal `axis` at `point`, at offsets along the face's first and second axis.
+    pub fn in_face(axis: Axis, point: Point, first: Offset, second: Offset) -> Vertex
+        ensures answer { λ r. ⌜ r ≡ in-face axis point first second ⌝ }
+    {
+        let place = Place {
+            form: Some(Form::Face),
+            axis: Some(axis),
+            point,
+        };
+        match axis {
+            Axis::X => Vertex {
+                place,
+                x: NONE,
+                y: first,
+                z: second,
+            },
+            Axis::Y => Vertex {
+                place,
+                x: first,
+                y: NONE,
+                z: second,
+            },
+            Axis::Z => Vertex {
+                place,
+                x: first,
+                y: second,
+                z: NONE,
+            },
+        }
+    }
+}
+
 // A side of a cell: a lattice edge along the axis, or a face with that normal, at its lowest point.
 #[derive(Clone, Copy, PartialEq, Eq, Debug)]
 pub struct Side {
@@ -51,9 +121,18 @@ pub impl fmt::Display for Vertex as VertexDisplay {
 
     fn fmt<W: fmt::Write>(&self, f: &mut fmt::Formatter<W>) -> fmt::Result {
         let p = self.place.point;
-        let x = Coordinate { whole: p.x, offset: self.x };
-        let y = Coordinate { whole: p.y, offset: self.y };
-        let z = Coordinate { whole: p.z, offset: self.z };
+        let x = Coordinate {
+            whole: p.x,
+            offset: self.x,
+        };
+        let y = Coordinate {
+            whole: p.y,
+            offset: self.y,
+        };
+        let z = Coordinate {
+            whole: p.z,
+            offset: self.z,
+        };
         write!(f, "{x} {y} {z}")
     }
 }

@@ -12,9 +12,9 @@ use Rattle.std.proofs.shelf.Lists.{take-rest}
 use Rattle.std.proofs.shelf.Tests.{le-ltb, cond-false}
 use Rattle.block.specs.Bits.{five}
 use Rattle.block.specs.Packed.{packed-declined}
-use Rattle.block.specs.Refusals.{Told, plain}
+use Rattle.block.specs.Refusals.{Told, plain, or-else}
 use Rattle.block.proofs.Fields.{first-five-field}
-use Rattle.job.specs.Job.{or-else, kind-of, twos-complement, job-kind, job-p, job-q, job-spare, job-declined}
+use Rattle.job.specs.Job.{kind-of, twos-complement, job-kind, job-p, job-q, job-spare, job-declined}
 
 -- the job's own spare bits
 abbrev pub spare-declined : ℕ → Option Told

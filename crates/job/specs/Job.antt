@@ -11,7 +11,7 @@ use Rattle.std.specs.declared.option.Option.the-variants.{Some, None}
 use Rattle.block.specs.Bits.{field}
 use Rattle.block.specs.Block.{Block}
 use Rattle.block.specs.Packed.{block-of-bytes, packed-told, packed-declined}
-use Rattle.block.specs.Refusals.{Told, plain}
+use Rattle.block.specs.Refusals.{Told, plain, or-else}
 use Rattle.job.specs.declared.CellKind.{CellKind}
 use Rattle.job.specs.declared.CellKind.the-variants.{Pixel, Voxel}
 use Rattle.job.specs.declared.Job.{Job}
@@ -42,10 +42,6 @@ pub record Decodes (bytes : List ℕ) (j : Job) : Type 0 where
   pub p : j .p ≡ job-p bytes
   pub q : j .q ≡ job-q bytes
   pub block : packed-told (j .block) ≡ block-of-bytes (drop 5 bytes)
-
-abbrev pub or-else : Option Told → Option Told → Option Told
-or-else (Some t) u = Some t
-or-else None u = u
 
 -- the refusal of a job, if any: a length that is wrong anywhere comes before a spare bit anywhere
 abbrev pub job-declined : List ℕ → Option Told

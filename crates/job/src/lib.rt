@@ -79,7 +79,11 @@ impl Header {
 fn kind_of(bit: u32) -> CellKind
     ensures answer { λ r. ⌜ r ≡ kind-of bit ⌝ }
 {
-    if bit == 1 { CellKind::Voxel } else { CellKind::Pixel }
+    if bit == 1 {
+        CellKind::Voxel
+    } else {
+        CellKind::Pixel
+    }
 }
 
 // A number of 26 bits in two's complement.
@@ -87,5 +91,9 @@ fn signed(n: u32) -> i32
     requires { ⌜ n < 2 ^ 26 ⌝ }
     ensures answer { λ r. ⌜ r ≡ twos-complement 26 n ⌝ }
 {
-    if n < 1 << 25 { n as i32 } else { n as i32 - (1 << 26) }
+    if n < 1 << 25 {
+        n as i32
+    } else {
+        n as i32 - (1 << 26)
+    }
 }

@@ -17,8 +17,8 @@ returns c =
     let t = c .typed .bytes in
     let small : Bytes (five bytes at) = (t at .fits, (t (at + 1) .fits, (t (at + 2) .fits, (t (at + 3) .fits, (t (at + 4) .fits, tt))))) in
     let same =
-        masked (c .word .result / 2 ^ m) n (c .pre) ∙ ap (λ w. w / 2 ^ m % 2 ^ n) (c .word .ensures .answer)
-        ∙ sym (field-of-five bytes start n m small (omega arith)) in
+    masked (c .word .result / 2 ^ m) n (c .pre) ∙ ap (λ w. w / 2 ^ m % 2 ^ n) (c .word .ensures .answer)
+    ∙ sym (field-of-five bytes start n m small (omega arith)) in
     record { answer = same; bound = subst (λ x. x < 2 ^ n) (sym same) (field-below bytes start n) }
 
 pub cast-result-2 : need.cast-result-2

@@ -11,8 +11,7 @@ use Rattle.std.proofs.shelf.Results.{err-from-errBy}
 use Rattle.std.proofs.shelf.Signed.{toZ-ofZ}
 use Rattle.std.proofs.shelf.Tests.{cond-true, cond-false, eq-eqb, ne-eqb}
 use Rattle.block.specs.Packed.{block-of-bytes}
-use Rattle.block.specs.Refusals.{told}
-use Rattle.job.specs.Job.{or-else}
+use Rattle.block.specs.Refusals.{told, or-else}
 use Rattle.job.proofs.Headers.{spare-declined, kind-same, p-same, q-same, declined-by}
 use Rattle.job.proofs.Job.decode.Needs as need
 
@@ -39,9 +38,14 @@ returns c =
     let b = c .in-Continue-block .ensures tt .answer in
     let declined = declined-by bytes None (c .decode-header .result .spare) long (search needs) (b .0) (h .spare) in
     let p-kept = toZ-ofZ w32 (c .decode-header .result .p) (search needs) in
-    record { answer = (declined ∙ cond-true _ _ _ (eq-eqb _ 0 (c .if-header-ne0 .left)), record {
-      kind = h .kind ∙ kind-same bytes;
-      p = p-kept ∙ h .p ∙ p-same bytes;
-      q = h .q ∙ q-same bytes;
-      block = b .1 ∙ ap block-of-bytes (take-rest bytes 5);
-    }) }
+    record {
+      answer = (
+        declined ∙ cond-true _ _ _ (eq-eqb _ 0 (c .if-header-ne0 .left)),
+        record {
+          kind = h .kind ∙ kind-same bytes;
+          p = p-kept ∙ h .p ∙ p-same bytes;
+          q = h .q ∙ q-same bytes;
+          block = b .1 ∙ ap block-of-bytes (take-rest bytes 5);
+        },
+      );
+    }

@@ -1,0 +1,4 @@
+pub mod Pixel
+pub mod Pixels
+pub mod Contour
+pub mod Surveys

@@ -1,0 +1,5 @@
+// Pixels: the unit squares in the planes of a block, and the segments by which the level cuts them.
+pub mod contour;
+pub mod pixel;
+pub mod pixels;
+pub mod survey;
