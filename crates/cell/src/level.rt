@@ -41,18 +41,6 @@ impl Level {
         }
     }
 
-    pub fn p(&self) -> i32
-        ensures answer { λ r. ⌜ r ≡ now (self .entry) .p ⌝ }
-    {
-        self.p
-    }
-
-    pub fn q(&self) -> u32
-        ensures answer { λ r. ⌜ r ≡ now (self .entry) .q ⌝ }
-    {
-        self.q
-    }
-
     // The height of a point with this sample, or nothing if the sample is beyond its limit.
     pub fn height(&self, sample: i32) -> Option<Height>
         ensures answer { λ r. ⌜ mapped (λ h. h .value) r ≡ height-rule (now (self .entry) .p) (now (self .entry) .q) sample ⌝ }
@@ -86,6 +74,6 @@ impl Height {
     pub fn is_on_level(&self) -> bool
         ensures answer { λ r. ⌜ r ≡ on-level (now (self .entry) .value) ⌝ }
     {
-        matches!(self.value, 0)
+        0 == self.value
     }
 }
