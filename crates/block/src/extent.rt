@@ -1,10 +1,10 @@
 // Sizes that every block may have.
 ghost use mathlib.Core.Bool.{true, false};
 ghost use mathlib.Core.Path.{_≡_};
-ghost use Prim.Native.Nat.{_+_, _^_, _<_, _≤_};
+ghost use Prim.Native.Nat.{_+_, _%_, _^_, _<_, _≤_};
 ghost use Rattle.std.specs.Options.{Cases};
 ghost use Rattle.block.specs.Extent.{sizes-of};
-ghost use Rattle.block.specs.Lattice.{allowed, all-allowed, inside, count, index};
+ghost use Rattle.block.specs.Lattice.{longest, allowed, all-allowed, inside, count, index};
 use crate::lattice::Point;
 use crate::lattice::Sizes;
 
@@ -32,10 +32,9 @@ impl Extent {
         })
     }
 
-    // The extent whose sizes are one more than these three; each is below 1,024.
+    // The extent whose sizes are one more than the lowest ten bits of these three.
     pub(crate) fn one_more(x: u16, y: u16, z: u16) -> Extent
-        requires { ⌜ (x < 1024) × (y < 1024) × (z < 1024) ⌝ }
-        ensures answer { λ r. ⌜ sizes-of r ≡ record { x = x + 1; y = y + 1; z = z + 1 } ⌝ }
+        ensures answer { λ r. ⌜ sizes-of r ≡ record { x = x % longest + 1; y = y % longest + 1; z = z % longest + 1 } ⌝ }
     {
         Extent { x, y, z }
     }
@@ -66,12 +65,10 @@ impl Extent {
         n.x as usize * (n.y as usize * n.z as usize)
     }
 
-    // The place of a point inside among the samples.
+    // The place of a point among the samples.
     pub(crate) fn index(&self, p: Point) -> usize
-        requires { ⌜ inside (sizes-of (now self)) p ≡ true ⌝ }
         ensures answer { λ r. ⌜ r ≡ index (sizes-of (now (self .entry))) p ⌝ }
-        ensures bound { λ r. ⌜ r < count (sizes-of (now (self .entry))) ⌝ }
-        ensures small { λ r. ⌜ r < 2 ^ 30 ⌝ }
+        ensures small { λ r. ⌜ r < 2 ^ 54 ⌝ }
     {
         let n = self.sizes();
         p.x as usize + n.x as usize * (p.y as usize + n.y as usize * p.z as usize)

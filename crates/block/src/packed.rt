@@ -65,7 +65,7 @@ pub impl Source for Packed<'_> as PackedSource {
 // The sample at a place, by its bit position: samples before it are not looked at.
 fn read(samples: &[u8], width: u32, i: usize) -> i32
     requires width { ⌜ width ≤ 16 ⌝ }
-    requires index { ⌜ i < 2 ^ 30 ⌝ }
+    requires index { ⌜ i < 2 ^ 54 ⌝ }
     ensures answer { λ r. ⌜ r ≡ pos (field (now (samples .entry)) (i * width) width) ⌝ }
     ensures range { λ r. ⌜ (lowest ≤ℤ r) × (r ≤ℤ highest) ⌝ }
 {

@@ -1,18 +1,22 @@
 -- The contours of one pixel more, and a refusal that stays.
 use mathlib.Core.Path.{_≡_, refl, sym, ap, subst, _∙_}
 use mathlib.Core.List.{_++_}
-use Prim.Native.Nat.{ℕ, zero, suc, _+_, _-_, _≤_}
+use Prim.Native.Nat.{ℕ, zero, suc, _+_, _-_, _≤_, _<_}
 use native.Mathlib.Nat.{add-zero, add-suc}
 use native.Mathlib.Numerals.{add-one}
 use native.Mathlib.Omega.{arith}
 use lib.ListN.{length, length-append}
+use Rattle.std.specs.Options.{valueOr}
 use Rattle.std.specs.declared.option.Option.{Option}
 use Rattle.std.specs.declared.option.Option.the-variants.{Some, None}
+use Rattle.std.proofs.shelf.Tests.{lt-ltb, cond-true}
 use Rattle.block.specs.Block.{Block}
 use Rattle.block.specs.Refusals.{Told, or-else}
+use Rattle.block.specs.declared.lattice.Point.{Point}
+use Rattle.block.specs.declared.lattice.Sizes.{Sizes}
 use Rattle.cell.specs.declared.level.Level.{Level}
 use Rattle.pixel.specs.Pixel.{pixel-declined, pixel-contour}
-use Rattle.pixel.specs.Pixels.{pixel-numbered, contours, contours-declined}
+use Rattle.pixel.specs.Pixels.{pixel-count, pixel-numbered, pixel-at, contours, contours-declined}
 
 module _ (b : Block) (l : Level) where
   pub length-more : (i : ℕ) → length (contours b l (i + 1)) ≡ length (contours b l i) + length (pixel-contour b l (pixel-numbered (b .sizes) i))
@@ -27,3 +31,8 @@ module _ (b : Block) (l : Level) where
 
   pub stays : (k n : ℕ) (t : Told) → k ≤ n → contours-declined b l k ≡ Some t → contours-declined b l n ≡ Some t
   stays k n t h e = let same : n ≡ k + (n - k) = omega arith in ap (contours-declined b l) same ∙ stays-by k (n - k) t e
+
+-- the pixel with a number below the count
+pub at-numbered : (n m : Sizes) (i : ℕ) (at : Point) → n ≡ m → i < pixel-count n → Some at ≡ pixel-at n i → at ≡ pixel-numbered m i
+at-numbered n m i at same below e =
+    ap (λ o. valueOr o at) (e ∙ cond-true _ _ _ (lt-ltb i (pixel-count n) below)) ∙ ap (λ k. pixel-numbered k i) same

@@ -56,7 +56,7 @@ impl Pixels {
         self.sizes.y as usize - 1
     }
 
-    pub(crate) fn numbered(&self, i: usize) -> Point
+    fn numbered(&self, i: usize) -> Point
         requires { ⌜ i < pixel-count (now self .sizes) ⌝ }
         ensures answer { λ r. ⌜ r ≡ pixel-numbered (now (self .entry) .sizes) i ⌝ }
     {

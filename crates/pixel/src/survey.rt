@@ -24,7 +24,11 @@ impl Survey {
         let count = pixels.count();
         let mut segments = 0;
         for i in 0..count {
-            segments += Contour::read(source, level, pixels.numbered(i))?.count();
+            let Some(at) = pixels.at(i) else {
+                // The count is that of the pixels.
+                unreachable()
+            };
+            segments += Contour::read(source, level, at)?.count();
         }
         Ok(Survey {
             planes: source.sizes().z,

@@ -11,6 +11,14 @@ use block::raster::RasterSource;
 use block::source::Source;
 use std::test::*;
 
+fn sizes(x: u32, y: u32, z: u32) -> Sizes {
+    Sizes { x, y, z }
+}
+
+fn point(x: u32, y: u32, z: u32) -> Point {
+    Point { x, y, z }
+}
+
 // The number of the refusal, or 0.
 fn refusal(sizes: Sizes, samples: &[i16]) -> u8 {
     match Raster::new(sizes, samples) {
@@ -22,110 +30,39 @@ fn refusal(sizes: Sizes, samples: &[i16]) -> u8 {
 #[test]
 fn sizes_from_one_to_1024() -> Result<(), Fail> {
     let row = [0i16; 1025];
-    check_eq(refusal(Sizes { x: 1, y: 1, z: 1 }, &row[0..1]), 0)?;
-    check_eq(
-        refusal(
-            Sizes {
-                x: 1024,
-                y: 1,
-                z: 1,
-            },
-            &row[0..1024],
-        ),
-        0,
-    )?;
-    check_eq(
-        refusal(
-            Sizes {
-                x: 1,
-                y: 1024,
-                z: 1,
-            },
-            &row[0..1024],
-        ),
-        0,
-    )?;
-    check_eq(
-        refusal(
-            Sizes {
-                x: 1,
-                y: 1,
-                z: 1024,
-            },
-            &row[0..1024],
-        ),
-        0,
-    )?;
-    check_eq(
-        refusal(
-            Sizes {
-                x: 1025,
-                y: 1,
-                z: 1,
-            },
-            &row,
-        ),
-        1,
-    )?;
-    check_eq(
-        refusal(
-            Sizes {
-                x: 1,
-                y: 1025,
-                z: 1,
-            },
-            &row,
-        ),
-        1,
-    )?;
-    check_eq(
-        refusal(
-            Sizes {
-                x: 1,
-                y: 1,
-                z: 1025,
-            },
-            &row,
-        ),
-        1,
-    )?;
-    check_eq(refusal(Sizes { x: 0, y: 1, z: 1 }, &row[0..0]), 1)?;
-    check_eq(refusal(Sizes { x: 1, y: 0, z: 1 }, &row[0..0]), 1)?;
-    check_eq(refusal(Sizes { x: 1, y: 1, z: 0 }, &row[0..0]), 1)?;
+    check_eq(refusal(sizes(1, 1, 1), &row[0..1]), 0)?;
+    check_eq(refusal(sizes(1024, 1, 1), &row[0..1024]), 0)?;
+    check_eq(refusal(sizes(1, 1024, 1), &row[0..1024]), 0)?;
+    check_eq(refusal(sizes(1, 1, 1024), &row[0..1024]), 0)?;
+    check_eq(refusal(sizes(1025, 1, 1), &row), 1)?;
+    check_eq(refusal(sizes(1, 1025, 1), &row), 1)?;
+    check_eq(refusal(sizes(1, 1, 1025), &row), 1)?;
+    check_eq(refusal(sizes(0, 1, 1), &row[0..0]), 1)?;
+    check_eq(refusal(sizes(1, 0, 1), &row[0..0]), 1)?;
+    check_eq(refusal(sizes(1, 1, 0), &row[0..0]), 1)?;
     // A size out of limits comes before a length that is wrong.
-    check_eq(
-        refusal(
-            Sizes {
-                x: 4294967295,
-                y: 4294967295,
-                z: 4294967295,
-            },
-            &row,
-        ),
-        1,
-    )
+    check_eq(refusal(sizes(4294967295, 4294967295, 4294967295), &row), 1)
 }
 
 #[test]
 fn as_many_samples_as_points() -> Result<(), Fail> {
     let row = [0i16; 25];
-    let sizes = Sizes { x: 2, y: 3, z: 4 };
-    check_eq(refusal(sizes, &row[0..23]), 2)?;
-    check_eq(refusal(sizes, &row[0..24]), 0)?;
-    check_eq(refusal(sizes, &row), 2)
+    check_eq(refusal(sizes(2, 3, 4), &row[0..23]), 2)?;
+    check_eq(refusal(sizes(2, 3, 4), &row[0..24]), 0)?;
+    check_eq(refusal(sizes(2, 3, 4), &row), 2)
 }
 
 #[test]
 fn storage_order_and_faults() -> Result<(), Fail> {
     let row = [10, 11, 12, 13, 14, 15, 16, 17, 18, 19, -32767, -32768];
-    let Ok(raster) = Raster::new(Sizes { x: 3, y: 2, z: 2 }, &row) else {
+    let Ok(raster) = Raster::new(sizes(3, 2, 2), &row) else {
         return Err(Fail::new("refused"));
     };
-    check(raster.sample(Point { x: 1, y: 0, z: 0 }) == Ok(11))?;
-    check(raster.sample(Point { x: 0, y: 1, z: 0 }) == Ok(13))?;
-    check(raster.sample(Point { x: 0, y: 0, z: 1 }) == Ok(16))?;
-    check(raster.sample(Point { x: 1, y: 1, z: 1 }) == Ok(-32767))?;
-    let last = Point { x: 2, y: 1, z: 1 };
+    check(raster.sample(point(1, 0, 0)) == Ok(11))?;
+    check(raster.sample(point(0, 1, 0)) == Ok(13))?;
+    check(raster.sample(point(0, 0, 1)) == Ok(16))?;
+    check(raster.sample(point(1, 1, 1)) == Ok(-32767))?;
+    let last = point(2, 1, 1);
     check(
         raster.sample(last)
             == Err(Fault {
@@ -134,7 +71,7 @@ fn storage_order_and_faults() -> Result<(), Fail> {
                 layers: 0,
             }),
     )?;
-    let past = Point { x: 3, y: 0, z: 0 };
+    let past = point(3, 0, 0);
     check(
         raster.sample(past)
             == Err(Fault {

@@ -1,13 +1,13 @@
 use mathlib.Core.Path.{_≡_, sym, ap, subst, _∙_}
-use Prim.Native.Nat.{_+_, _≤_}
+use Prim.Native.Nat.{_+_, _≤_, _<_}
 use native.Mathlib.Omega.{arith}
 use lib.ListN.{length}
 use Rattle.std.specs.declared.option.Option.the-variants.{Some, None}
 use Rattle.std.proofs.shelf.Results.{err-from-errBy}
 use Rattle.block.specs.Refusals.{told}
 use Rattle.pixel.specs.Pixel.{pixel-declined, pixel-contour}
-use Rattle.pixel.specs.Pixels.{pixel-count, pixel-numbered}
-use Rattle.pixel.proofs.Counting.{length-more, declined-more, stays}
+use Rattle.pixel.specs.Pixels.{pixel-count}
+use Rattle.pixel.proofs.Counting.{length-more, declined-more, stays, at-numbered}
 use Rattle.pixel.proofs.Places.{count-fits}
 use Rattle.pixel.proofs.survey.Survey.of.Needs as need
 
@@ -17,7 +17,8 @@ returns-in-Break-read g c =
     let l = c .args .level in
     let i = c .loop-i .i in
     let n = c .of-pixels .ensures .answer in
-    let at = c .numbered .ensures .answer ∙ ap (λ m. pixel-numbered m i) n in
+    let below = subst (λ m. i < m) (c .count-count .ensures .answer) (c .loop-i-test .taken) in
+    let at = at-numbered (c .of-pixels .result .sizes) (b .sizes) i (c .in-Some .at) n below (sym (c .in-Some .is) ∙ c .at .ensures .answer) in
     let here = ap (pixel-declined b l) (sym at) ∙ c .in-Break-read .ensures tt .answer in
     let e = err-from-errBy (c .from-residual .result) (c .from-residual .ensures .1) in
     let count = c .count-count .ensures .answer ∙ ap pixel-count n in
@@ -35,7 +36,8 @@ loop-i-again g c =
     let l = c .args .level in
     let i = c .loop-i .i in
     let n = c .of-pixels .ensures .answer in
-    let at = c .numbered .ensures .answer ∙ ap (λ m. pixel-numbered m i) n in
+    let below = subst (λ m. i < m) (c .count-count .ensures .answer) (c .loop-i-test .taken) in
+    let at = at-numbered (c .of-pixels .result .sizes) (b .sizes) i (c .in-Some .at) n below (sym (c .in-Some .is) ∙ c .at .ensures .answer) in
     let read = c .in-Continue-read .ensures tt .answer in
     let here = ap (pixel-declined b l) (sym at) ∙ read .0 in
     let held = c .count .ensures .answer ∙ ap length (read .1 ∙ ap (pixel-contour b l) at) in (
