@@ -5,5 +5,4 @@ pub mod Cuts
 pub mod Corner
 pub mod Corners
 pub mod Interpolant
-pub mod Meaning
 pub mod Vertex

@@ -1,5 +1,5 @@
 -- What a kind of cell means, and the laws that every kind shows.
-use mathlib.Core.Bool.{Bool, true, false, _&&_, _||_}
+use mathlib.Core.Bool.{Bool, true, false, _&&_, _||_, cond}
 use mathlib.Core.Path.{_≡_}
 use mathlib.Core.Logic.{_↔_, _⊎_}
 use mathlib.Core.List.{List, [], _∷_, map}
@@ -10,17 +10,19 @@ use Rattle.std.specs.shelf.Lists.{Has, countBy}
 use Rattle.std.specs.declared.option.Option.{Option}
 use Rattle.std.specs.declared.option.Option.the-variants.{Some, None}
 use Rattle.block.specs.Block.{Block}
+use Rattle.block.specs.Refusals.{Told, told}
 use Rattle.block.specs.declared.lattice.Point.{Point}
 use Rattle.block.specs.declared.lattice.Sizes.{Sizes}
+use Rattle.block.specs.declared.refusal.Refusal.the-variants.{NoCell}
 use Rattle.cell.specs.Corner.{corners-declined}
 use Rattle.cell.specs.declared.level.Level.{Level}
 use Rattle.cell.specs.declared.vertex.Axis.{Axis}
 use Rattle.cell.specs.declared.vertex.Axis.the-variants.{X, Y, Z}
 use Rattle.cell.specs.declared.vertex.Form.{Form}
 use Rattle.cell.specs.declared.vertex.Form.the-variants.{Edge, Face}
 use Rattle.cell.specs.declared.vertex.Place.{Place}
 use Rattle.cell.specs.declared.vertex.Side.{Side}
 use Rattle.cell.specs.declared.vertex.Vertex.{Vertex}
 
 -- A piece names its vertices in order: two for a segment, three for a triangle.
 abbrev pub Piece : Type 0
@@ -113,6 +115,10 @@ module _ (m : Meaning) (b : Block) (l : Level) where
   -- a joint is a cut of one of a cell's sides
   abbrev pub CutOfCell : Point → Joint → Type 0
   CutOfCell c j = (s : Side) × Has (m .sides c) s × CutOf s j
+
+-- why a position is not read, if it is not
+abbrev pub cell-declined : Meaning → Block → Level → Point → Option Told
+cell-declined m b l c = cond (m .cell (b .sizes) c) (corners-declined b l (m .corners c)) (Some (told NoCell))
 
 -- The laws speak of cells that can be read. That a side's cuts depend on nothing but block, level and side stands in the type of `cuts`.
 pub record Laws (m : Meaning) : Type 0 where
