@@ -9,26 +9,26 @@ use Rattle.cell.specs.Crossing.{opposite}
 use Rattle.cell.specs.Face.{FacePoint, P0, P1, P2, P3, C, join, joined-by-Δ, crossings}
 use Rattle.cell.specs.Interpolant.{Corner, c00, c10, c01, c11, corner, beside, times-in, ends-at, one-if, degree}
 
-abbrev either-side : (Sign → Bool) → Bool
+abbrev pub either-side : (Sign → Bool) → Bool
 either-side t = t minus && t plus
 
-abbrev each-sign : (Sign → Bool) → Bool
+abbrev pub each-sign : (Sign → Bool) → Bool
 each-sign t = t minus && (t none && t plus)
 
-abbrev each-point : (FacePoint → Bool) → Bool
+abbrev pub each-point : (FacePoint → Bool) → Bool
 each-point t = t P0 && (t P1 && (t P2 && (t P3 && t C)))
 
-at-side : (t : Sign → Bool) → either-side t ≡ true → (s : Sign) → is-none s ≡ false → t s ≡ true
+pub at-side : (t : Sign → Bool) → either-side t ≡ true → (s : Sign) → is-none s ≡ false → t s ≡ true
 at-side t h minus off = and-parts _ _ h .0
 at-side t h none off = absurd (true≢false off)
 at-side t h plus off = and-parts _ _ h .1
 
-at-sign : (t : Sign → Bool) → each-sign t ≡ true → (s : Sign) → t s ≡ true
+pub at-sign : (t : Sign → Bool) → each-sign t ≡ true → (s : Sign) → t s ≡ true
 at-sign t h minus = grind arith
 at-sign t h none = grind arith
 at-sign t h plus = grind arith
 
-at-point : (t : FacePoint → Bool) → each-point t ≡ true → (x : FacePoint) → t x ≡ true
+pub at-point : (t : FacePoint → Bool) → each-point t ≡ true → (x : FacePoint) → t x ≡ true
 at-point t h P0 = grind arith
 at-point t h P1 = grind arith
 at-point t h P2 = grind arith

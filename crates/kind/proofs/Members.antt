@@ -106,3 +106,13 @@ module _ {X Y : Type 0} (f : X → Y) where
       keep-distinct (p x) x (kept-by p xs)
       (λ h. let t = map-has f (kept-by p xs) (f x) h in d .0 (subst (Has (map f xs)) (t .2) (has-map f xs (t .0) (kept-has p xs (t .0) (t .1) .0))))
       (distinct-kept p xs (d .1))
+
+  -- what a map keeps apart is apart, and conversely where the map does not bring two together
+  pub distinct-from-map : (xs : List X) → Distinct (map f xs) → Distinct xs
+  distinct-from-map [] d = tt
+  distinct-from-map (x ∷ xs) d = (λ h. d .0 (has-map f xs x h), distinct-from-map xs (d .1))
+
+  pub distinct-map : ((x y : X) → f x ≡ f y → x ≡ y) → (xs : List X) → Distinct xs → Distinct (map f xs)
+  distinct-map inj [] d = tt
+  distinct-map inj (x ∷ xs) d =
+      (λ h. let t = map-has f xs (f x) h in d .0 (subst (Has xs) (inj (t .0) x (t .2)) (t .1)), distinct-map inj xs (d .1))

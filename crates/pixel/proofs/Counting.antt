@@ -15,7 +15,7 @@ use Rattle.block.specs.Refusals.{Told, or-else}
 use Rattle.block.specs.declared.lattice.Point.{Point}
 use Rattle.block.specs.declared.lattice.Sizes.{Sizes}
 use Rattle.cell.specs.declared.level.Level.{Level}
-use Rattle.pixel.specs.Pixel.{pixel-declined, pixel-contour}
+use Rattle.pixel_theory.specs.Pixel.{pixel-declined, pixel-contour}
 use Rattle.pixel.specs.Pixels.{pixel-count, pixel-numbered, pixel-at, contours, contours-declined}
 
 module _ (b : Block) (l : Level) where

@@ -16,7 +16,7 @@ use Rattle.block.specs.declared.lattice.Sizes.{Sizes}
 use Rattle.cell.specs.Face.{FaceSegment}
 use Rattle.cell.specs.declared.face.FacePoint.{FacePoint}
 use Rattle.cell.specs.declared.vertex.Vertex.{Vertex}
-use Rattle.pixel.specs.Pixel.{is-pixel, placed}
+use Rattle.pixel_theory.specs.Pixel.{is-pixel, placed}
 use Rattle.pixel.specs.Pixels.{pixel-count}
 
 nth-mapped : (v : FacePoint → Vertex) (ss : List FaceSegment) (n : ℕ) → mapped (λ s. (v (s .0), v (s .1))) (nth ss n) ≡ nth (placed v ss) n

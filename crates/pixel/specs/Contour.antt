@@ -11,7 +11,7 @@ use Rattle.cell.specs.Face.{meets-level}
 use Rattle.cell.specs.declared.face.Face.{Face}
 use Rattle.cell.specs.declared.level.Level.{Level}
 use Rattle.cell.specs.declared.vertex.Vertex.{Vertex}
-use Rattle.pixel.specs.Pixel.{vertex-of, placed, next-x, next-y}
+use Rattle.pixel_theory.specs.Pixel.{vertex-of, placed, next-x, next-y}
 use Rattle.pixel.specs.declared.contour.Contour.{Contour}
 
 abbrev pub segments-held : Contour → List (Vertex × Vertex)

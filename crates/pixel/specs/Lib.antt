@@ -1,4 +1,4 @@
-pub mod Pixel
 pub mod Pixels
+pub mod PixelLaws
 pub mod Contour
 pub mod Surveys

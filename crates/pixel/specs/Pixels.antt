@@ -11,7 +11,7 @@ use Rattle.block.specs.declared.lattice.Point.{Point}
 use Rattle.block.specs.declared.lattice.Sizes.{Sizes}
 use Rattle.cell.specs.declared.level.Level.{Level}
 use Rattle.cell.specs.declared.vertex.Vertex.{Vertex}
-use Rattle.pixel.specs.Pixel.{pixel-declined, pixel-contour}
+use Rattle.pixel_theory.specs.Pixel.{pixel-declined, pixel-contour}
 
 -- how many pixels there are
 abbrev pub pixel-count : Sizes → ℕ

@@ -8,7 +8,7 @@ ghost use Rattle.block.specs.Refusals.{Outcome};
 ghost use Rattle.cell.specs.Corners.{at-corners};
 ghost use Rattle.cell.specs.Corner.{corner-height, corners-declined};
 ghost use Rattle.pixel.specs.Contour.{segments-held, HeightsOf};
-ghost use Rattle.pixel.specs.Pixel.{is-pixel, pixel-corners, pixel-declined, pixel-contour, next-x, next-y, vertex-of};
+ghost use Rattle.pixel_theory.specs.Pixel.{is-pixel, pixel-corners, pixel-declined, pixel-contour, next-x, next-y, vertex-of};
 use crate::contour::Contour;
 use block::lattice::Point;
 use block::lattice::Sizes;

@@ -1,6 +1,6 @@
 use mathlib.Core.Path.{_≡_, sym, subst, _∙_}
 use mathlib.Core.Bool.{true}
-use Rattle.pixel.specs.Pixel.{is-pixel}
+use Rattle.pixel_theory.specs.Pixel.{is-pixel}
 use Rattle.pixel.proofs.Places.{next-fits}
 use Rattle.pixel.proofs.contour.Contour.read.Needs as need
 

@@ -3,7 +3,7 @@ use Rattle.std.specs.Options.{mapped}
 use Rattle.std.specs.declared.option.Option.the-variants.{Some}
 use Rattle.cell.specs.Corners.{at-corners}
 use Rattle.cell.specs.Cuts.{segments-in}
-use Rattle.pixel.specs.Pixel.{vertex-of}
+use Rattle.pixel_theory.specs.Pixel.{vertex-of}
 use Rattle.pixel.proofs.Places.{nth-placed}
 use Rattle.pixel.proofs.contour.Contour.segment.Needs as need
 

@@ -5,7 +5,7 @@ use lib.ListN.{length}
 use Rattle.std.specs.declared.option.Option.the-variants.{Some, None}
 use Rattle.std.proofs.shelf.Results.{err-from-errBy}
 use Rattle.block.specs.Refusals.{told}
-use Rattle.pixel.specs.Pixel.{pixel-declined, pixel-contour}
+use Rattle.pixel_theory.specs.Pixel.{pixel-declined, pixel-contour}
 use Rattle.pixel.specs.Pixels.{pixel-count}
 use Rattle.pixel.proofs.Counting.{length-more, declined-more, stays, at-numbered}
 use Rattle.pixel.proofs.Places.{count-fits}

@@ -1,0 +1,3 @@
+pub mod Faces
+pub mod Laws
+pub mod Points
