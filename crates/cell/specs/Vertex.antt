@@ -5,7 +5,7 @@ use Prim.Native.Nat.{ℕ}
 use lib.Chars.{codes}
 use lib.Dec.{eqb}
 use Rattle.std.specs.Written.{decimal}
-use Rattle.std.specs.declared.option.Option.the-variants.{Some}
+use Rattle.std.specs.declared.option.Option.the-variants.{Some, None}
 use Rattle.block.specs.declared.lattice.Point.{Point}
 use Rattle.cell.specs.Crossing.{offset}
 use Rattle.cell.specs.declared.crossing.Offset.{Offset}
@@ -29,6 +29,10 @@ abbrev pub in-face : Axis → Point → Offset → Offset → Vertex
 in-face X p first second = record { place = record { form = Some Face; axis = Some X; point = p }; x = no-offset; y = first; z = second }
 in-face Y p first second = record { place = record { form = Some Face; axis = Some Y; point = p }; x = first; y = no-offset; z = second }
 in-face Z p first second = record { place = record { form = Some Face; axis = Some Z; point = p }; x = first; y = second; z = no-offset }
+
+-- a blank slot: form and axis none, numbers zero
+abbrev pub no-vertex : Vertex
+no-vertex = record { place = record { form = None; axis = None; point = record { x = 0; y = 0; z = 0 } }; x = no-offset; y = no-offset; z = no-offset }
 
 -- 2, or 2+1/3
 abbrev pub coordinate : ℕ → Offset → List ℕ

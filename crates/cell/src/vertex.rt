@@ -1,7 +1,7 @@
 // A vertex of a contour or a shell, and its exact coordinates.
 ghost use mathlib.Core.Path.{_≡_};
 ghost use Rattle.std.specs.declared.option.Option.the-variants.{Some};
-ghost use Rattle.cell.specs.Vertex.{coordinates, coordinate, on-edge, in-face};
+ghost use Rattle.cell.specs.Vertex.{coordinates, coordinate, no-vertex, on-edge, in-face};
 use crate::crossing::Offset;
 use block::lattice::Point;
 use block::lattice::PointDebug;
@@ -46,6 +46,24 @@ const NONE: Offset = Offset {
 };
 
 impl Vertex {
+    // What a slot holds that no vertex stands in.
+    pub fn blank() -> Vertex
+        ensures answer { λ r. ⌜ r ≡ no-vertex ⌝ }
+    {
+        let point = Point { x: 0, y: 0, z: 0 };
+        let place = Place {
+            form: None,
+            axis: None,
+            point,
+        };
+        Vertex {
+            place,
+            x: NONE,
+            y: NONE,
+            z: NONE,
+        }
+    }
+
     // The crossing of the edge along `axis` from `point`, at an offset from there.
     pub fn on_edge(axis: Axis, point: Point, offset: Offset) -> Vertex
         ensures answer { λ r. ⌜ r ≡ on-edge axis point offset ⌝ }

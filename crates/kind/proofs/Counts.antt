@@ -24,9 +24,9 @@ module _ {X : Type 0} (p : X → Bool) where
       ⊎-elim
       (λ t. (x, has-here x xs x refl, t))
       (λ f.
-          let none = ap one-if f in
-          let rest = counted xs (omega (arith, count-cons x xs)) in
-          (rest .0, has-there x xs (rest .0) (rest .1), rest .2))
+      let none = ap one-if f in
+      let rest = counted xs (omega (arith, count-cons x xs)) in
+      (rest .0, has-there x xs (rest .0) (rest .1), rest .2))
       (cases-bool (p x))
 
   pub has-counted : (xs : List X) (x : X) → Has xs x → p x ≡ true → 0 < countBy p xs

@@ -1,3 +1,4 @@
 pub mod Counts
 pub mod Members
 pub mod Places
+pub mod Reading

@@ -9,6 +9,8 @@ ghost use Rattle.cell.specs.declared.vertex.Side.{Side as ASide};
 ghost use Rattle.cell.specs.declared.vertex.Vertex.{Vertex as AVertex};
 ghost use Rattle.kind.specs.Meaning.{Meaning, Laws, Joint as Places, cell-declined};
 ghost use Rattle.kind.specs.Shapes.{local-pieces, bordered, places-in, cut-at, corner-at};
+use crate::joint::Joint;
+use crate::piece::Piece;
 use block::lattice::Point;
 use block::lattice::Sizes;
 use block::refusal::Refusal;
@@ -16,8 +18,6 @@ use block::source::Source;
 use cell::level::Level;
 use cell::vertex::Side;
 use cell::vertex::Vertex;
-use crate::joint::Joint;
-use crate::piece::Piece;
 
 // A cell that was read: its vertices, its pieces with numbers among these, and its sides with their cuts.
 pub trait Shape<P: Piece> {
@@ -45,6 +45,7 @@ pub trait Shape<P: Piece> {
 // A kind of cell is known by what it means, and carries the proof of its laws.
 pub trait Kind {
     type Piece: Piece;
+
     type Shape: Shape<Self::Piece> + Drop;
 
     ghost meaning: { Meaning };

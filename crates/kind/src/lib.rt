@@ -2,3 +2,4 @@
 pub mod joint;
 pub mod kind;
 pub mod piece;
+pub mod segment;

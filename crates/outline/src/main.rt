@@ -6,10 +6,16 @@ use block::packed::Packed;
 use block::packed::PackedSource;
 use block::refusal::Refusal;
 use cell::level::Level;
+use cell::vertex::Vertex;
 use cell::vertex::VertexDisplay;
 use job::Job;
-use pixel::contour::Contour;
+use kind::kind::Kind;
+use kind::kind::Shape;
 use pixel::pixels::Pixels;
+use pixel::shape::Pixel;
+use pixel::shape::PixelHeld;
+use pixel::shape::PixelKind;
+use pixel::shape::PixelShape;
 use pixel::survey::Survey;
 use std::io;
 use std::io::Read;
@@ -83,17 +89,26 @@ fn print_segments(rt: &LibcRuntime, block: &Packed, level: Level) -> Result<(), 
     let pixels = Pixels::of(block);
     for i in 0..pixels.count() {
         if let Some(at) = pixels.at(i) {
-            print_contour(rt, &Contour::read(block, level, at)?)?;
+            print_pixel(rt, &Pixel.read(block, level, at)?)?;
         }
     }
     Ok(())
 }
 
-fn print_contour(rt: &LibcRuntime, contour: &Contour) -> io::Result<()> {
-    for n in 0..contour.count() {
-        if let Some((from, to)) = contour.segment(n) {
+fn print_pixel(rt: &LibcRuntime, shape: &PixelShape) -> io::Result<()> {
+    for piece in shape.pieces() {
+        let ends = (end(shape, piece.from), end(shape, piece.to));
+        if let (Some(from), Some(to)) = ends {
             println!(rt, "s {from}, {to}")?;
         }
     }
     Ok(())
+}
+
+// The vertex with a number, counted from 1.
+fn end(shape: &PixelShape, number: usize) -> Option<Vertex> {
+    if number == 0 {
+        return None;
+    }
+    shape.vertices().get(number - 1).copied()
 }

@@ -5,7 +5,7 @@ use Prim.Native.Nat.{ℕ, zero, suc, _+_, _-_, _≤_, _<_}
 use native.Mathlib.Nat.{add-zero, add-suc}
 use native.Mathlib.Numerals.{add-one}
 use native.Mathlib.Omega.{arith}
-use lib.ListN.{length, length-append}
+use lib.ListN.{length, length-append, length-map}
 use Rattle.std.specs.Options.{valueOr}
 use Rattle.std.specs.declared.option.Option.{Option}
 use Rattle.std.specs.declared.option.Option.the-variants.{Some, None}
@@ -15,19 +15,26 @@ use Rattle.block.specs.Refusals.{Told, or-else}
 use Rattle.block.specs.declared.lattice.Point.{Point}
 use Rattle.block.specs.declared.lattice.Sizes.{Sizes}
 use Rattle.cell.specs.declared.level.Level.{Level}
-use Rattle.pixel_theory.specs.Pixel.{pixel-declined, pixel-contour}
+use Rattle.cell.specs.Face.{face-segments}
+use Rattle.kind.specs.Meaning.{cell-declined}
+use Rattle.pixel_theory.specs.Kind.{pixel, segment-places, place-of}
+use Rattle.pixel_theory.specs.Pixel.{at-pixel}
 use Rattle.pixel.specs.Pixels.{pixel-count, pixel-numbered, pixel-at, contours, contours-declined}
 
+-- a pixel has as many pieces as its face has segments
+pub piece-count : (b : Block) (l : Level) (at : Point) → length (pixel .pieces b l at) ≡ length (at-pixel face-segments b l at)
+piece-count b l at = length-map (at-pixel face-segments b l at) (segment-places (place-of at))
+
 module _ (b : Block) (l : Level) where
-  pub length-more : (i : ℕ) → length (contours b l (i + 1)) ≡ length (contours b l i) + length (pixel-contour b l (pixel-numbered (b .sizes) i))
+  pub length-more : (i : ℕ) → length (contours b l (i + 1)) ≡ length (contours b l i) + length (pixel .pieces b l (pixel-numbered (b .sizes) i))
   length-more i = ap (λ k. length (contours b l k)) (add-one i) ∙ length-append (contours b l i) _
 
-  pub declined-more : (i : ℕ) (d : Option Told) → contours-declined b l i ≡ None → pixel-declined b l (pixel-numbered (b .sizes) i) ≡ d → contours-declined b l (i + 1) ≡ d
+  pub declined-more : (i : ℕ) (d : Option Told) → contours-declined b l i ≡ None → cell-declined pixel b l (pixel-numbered (b .sizes) i) ≡ d → contours-declined b l (i + 1) ≡ d
   declined-more i d before here = ap (contours-declined b l) (add-one i) ∙ (λ j. or-else (before j) (here j))
 
   stays-by : (k d : ℕ) (t : Told) → contours-declined b l k ≡ Some t → contours-declined b l (k + d) ≡ Some t
   stays-by k zero t h = ap (contours-declined b l) (add-zero k) ∙ h
-  stays-by k (suc d) t h = ap (contours-declined b l) (add-suc k d) ∙ ap (λ o. or-else o (pixel-declined b l (pixel-numbered (b .sizes) (k + d)))) (stays-by k d t h)
+  stays-by k (suc d) t h = ap (contours-declined b l) (add-suc k d) ∙ ap (λ o. or-else o (cell-declined pixel b l (pixel-numbered (b .sizes) (k + d)))) (stays-by k d t h)
 
   pub stays : (k n : ℕ) (t : Told) → k ≤ n → contours-declined b l k ≡ Some t → contours-declined b l n ≡ Some t
   stays k n t h e = let same : n ≡ k + (n - k) = omega arith in ap (contours-declined b l) same ∙ stays-by k (n - k) t e

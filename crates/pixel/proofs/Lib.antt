@@ -1,2 +1,4 @@
+pub mod Borders
 pub mod Counting
+pub mod Held
 pub mod Places

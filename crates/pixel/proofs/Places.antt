@@ -1,31 +1,16 @@
--- A segment by its vertices stands where it stands by its points, and a pixel's corners have coordinates that fit.
-use mathlib.Core.Path.{_≡_, refl, sym, ap, _∙_}
+-- A pixel's corners have coordinates that fit, and so does the count of pixels.
+use mathlib.Core.Path.{_≡_}
 use mathlib.Core.Bool.{true, _&&_}
-use mathlib.Core.List.{List, [], _∷_}
-use Prim.Native.Nat.{ℕ, zero, suc, _+_, _-_, _*_, _^_, _≤_, _<_}
+use Prim.Native.Nat.{_+_, _-_, _*_, _^_, _≤_, _<_}
 use native.Mathlib.Omega.{arith}
 use lib.Dec.{leb, ltb}
-use Rattle.std.specs.Options.{mapped}
-use Rattle.std.specs.declared.option.Option.the-variants.{Some, None}
-use Rattle.std.specs.shelf.Maps.{nth}
 use Rattle.std.proofs.shelf.Bits.{mul-le}
 use Rattle.std.proofs.shelf.Tests.{and-parts, ltb-true, leb-true}
 use Rattle.block.specs.Lattice.{longest, allowed, all-allowed}
 use Rattle.block.specs.declared.lattice.Point.{Point}
 use Rattle.block.specs.declared.lattice.Sizes.{Sizes}
-use Rattle.cell.specs.Face.{FaceSegment}
-use Rattle.cell.specs.declared.face.FacePoint.{FacePoint}
-use Rattle.cell.specs.declared.vertex.Vertex.{Vertex}
-use Rattle.pixel_theory.specs.Pixel.{is-pixel, placed}
+use Rattle.pixel_theory.specs.Pixel.{is-pixel}
 use Rattle.pixel.specs.Pixels.{pixel-count}
-
-nth-mapped : (v : FacePoint → Vertex) (ss : List FaceSegment) (n : ℕ) → mapped (λ s. (v (s .0), v (s .1))) (nth ss n) ≡ nth (placed v ss) n
-nth-mapped v [] n = refl
-nth-mapped v (s ∷ ss) zero = refl
-nth-mapped v (s ∷ ss) (suc n) = nth-mapped v ss n
-
-pub nth-placed : (v : FacePoint → Vertex) (ss : List FaceSegment) (n : ℕ) (s : FaceSegment) → nth ss n ≡ Some s → Some (v (s .0), v (s .1)) ≡ nth (placed v ss) n
-nth-placed v ss n s e = ap (mapped (λ t. (v (t .0), v (t .1)))) (sym e) ∙ nth-mapped v ss n
 
 -- the next coordinates of a pixel fit
 pub next-fits : (n : Sizes) (at : Point) → all-allowed n ≡ true → is-pixel n at ≡ true → (at .x + 1 < 2 ^ 32) × (at .y + 1 < 2 ^ 32)

@@ -10,8 +10,8 @@ use Rattle.block.specs.Refusals.{Told, or-else}
 use Rattle.block.specs.declared.lattice.Point.{Point}
 use Rattle.block.specs.declared.lattice.Sizes.{Sizes}
 use Rattle.cell.specs.declared.level.Level.{Level}
-use Rattle.cell.specs.declared.vertex.Vertex.{Vertex}
-use Rattle.pixel_theory.specs.Pixel.{pixel-declined, pixel-contour}
+use Rattle.kind.specs.Meaning.{Piece, cell-declined}
+use Rattle.pixel_theory.specs.Kind.{pixel}
 
 -- how many pixels there are
 abbrev pub pixel-count : Sizes → ℕ
@@ -27,9 +27,9 @@ pixel-at n i = cond (ltb i (pixel-count n)) (Some (pixel-numbered n i)) None
 -- the refusal of the first k pixels, if any: that of the first which has one
 abbrev pub contours-declined : Block → Level → ℕ → Option Told
 contours-declined b l zero = None
-contours-declined b l (suc k) = or-else (contours-declined b l k) (pixel-declined b l (pixel-numbered (b .sizes) k))
+contours-declined b l (suc k) = or-else (contours-declined b l k) (cell-declined pixel b l (pixel-numbered (b .sizes) k))
 
 -- the segments of the first k pixels, one pixel after another
-abbrev pub contours : Block → Level → ℕ → List (Vertex × Vertex)
+abbrev pub contours : Block → Level → ℕ → List Piece
 contours b l zero = []
-contours b l (suc k) = contours b l k ++ pixel-contour b l (pixel-numbered (b .sizes) k)
+contours b l (suc k) = contours b l k ++ pixel .pieces b l (pixel-numbered (b .sizes) k)

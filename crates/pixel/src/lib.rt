@@ -1,5 +1,6 @@
 // Pixels: the unit squares in the planes of a block, and the segments by which the level cuts them.
-pub mod contour;
+mod contour;
 pub mod pixel;
 pub mod pixels;
+pub mod shape;
 pub mod survey;

@@ -1,19 +1,21 @@
-// Reading a pixel, and its segments.
+// Reading a pixel.
 ghost use mathlib.Core.Path.{_≡_};
-ghost use mathlib.Core.Bool.{true};
+ghost use mathlib.Core.List.{map, [], _∷_};
 ghost use Prim.Native.Nat.{_+_, _^_, _<_, _≤_};
-ghost use lib.ListN.{length};
-ghost use Rattle.std.specs.shelf.Maps.{nth};
+ghost use lib.ListN.{length, take};
 ghost use Rattle.block.specs.Refusals.{Outcome};
+ghost use Rattle.cell.specs.Corner.{corners-declined};
 ghost use Rattle.cell.specs.Corners.{at-corners};
-ghost use Rattle.cell.specs.Corner.{corner-height, corners-declined};
-ghost use Rattle.pixel.specs.Contour.{segments-held, HeightsOf};
-ghost use Rattle.pixel_theory.specs.Pixel.{is-pixel, pixel-corners, pixel-declined, pixel-contour, next-x, next-y, vertex-of};
+ghost use Rattle.cell.specs.Cuts.{segments-in};
+ghost use Rattle.kind.specs.Meaning.{cell-declined};
+ghost use Rattle.pixel.specs.Contour.{HeightsOf, Holds};
+ghost use Rattle.pixel_theory.specs.Kind.{pixel};
+ghost use Rattle.pixel_theory.specs.Numbers.{points-in, numbers-in};
+ghost use Rattle.pixel_theory.specs.Pixel.{is-pixel, pixel-corners, next-x, next-y, vertex-of};
 use crate::contour::Contour;
 use block::lattice::Point;
 use block::lattice::Sizes;
 use block::refusal::Refusal;
-use block::refusal::RefusalFromFault;
 use block::source::Source;
 use cell::corner::height_at;
 use cell::crossing::along_edge;
@@ -23,6 +25,9 @@ use cell::face::FacePoint;
 use cell::level::Level;
 use cell::vertex::Axis;
 use cell::vertex::Vertex;
+use kind::segment::Segment;
+
+mod border;
 
 pub fn is_pixel(sizes: Sizes, at: Point) -> bool
     ensures answer { λ r. ⌜ r ≡ is-pixel sizes at ⌝ }
@@ -32,8 +37,8 @@ pub fn is_pixel(sizes: Sizes, at: Point) -> bool
 
 impl Contour {
     // Reads the corners of a pixel, each once, in order.
-    pub fn read<S: Source>(source: &S, level: Level, at: Point) -> Result<Contour, Refusal>
-        ensures answer { λ r. ⌜ Outcome (pixel-declined (S·Source .block (now (source .entry))) level at) (λ c. segments-held c ≡ pixel-contour (S·Source .block (now (source .entry))) level at) r ⌝ }
+    pub(crate) fn read<S: Source>(source: &S, level: Level, at: Point) -> Result<Contour, Refusal>
+        ensures answer { λ r. ⌜ Outcome (cell-declined pixel (S·Source .block (now (source .entry))) level at) (Holds (S·Source .block (now (source .entry))) level at) r ⌝ }
     {
         if !is_pixel(source.sizes(), at) {
             return Err(Refusal::NoCell);
@@ -46,21 +51,55 @@ impl Contour {
         Ok(Contour { at, face, cut })
     }
 
-    // How many segments there are.
-    pub fn count(&self) -> usize
-        ensures answer { λ r. ⌜ r ≡ length (segments-held (now (self .entry))) ⌝ }
-        ensures few { λ r. ⌜ r ≤ 4 ⌝ }
+    // The vertices in order, and blank ones behind them.
+    pub(crate) fn vertices(&self) -> [Vertex; 5]
+        ensures answer { λ r. ⌜ take (length (points-in (now (self .entry) .cut))) r ≡ map (at-corners (vertex-of (now (self .entry) .at)) (now (self .entry) .face)) (points-in (now (self .entry) .cut)) ⌝ }
     {
-        self.cut.count()
+        let none = Vertex::blank();
+        match self.cut {
+            Cut::Uncut => [none, none, none, none, none],
+            Cut::Single(a, b) => [self.vertex(a), self.vertex(b), none, none, none],
+            Cut::Rising | Cut::Falling => [
+                self.vertex(FacePoint::P0),
+                self.vertex(FacePoint::P1),
+                self.vertex(FacePoint::P2),
+                self.vertex(FacePoint::P3),
+                none,
+            ],
+            Cut::Star => [
+                self.vertex(FacePoint::P0),
+                self.vertex(FacePoint::P1),
+                self.vertex(FacePoint::P2),
+                self.vertex(FacePoint::P3),
+                self.vertex(FacePoint::C),
+            ],
+        }
     }
 
-    // The ends of the segment at a place, counted from 0, or nothing past the last.
-    pub fn segment(&self, n: usize) -> Option<(Vertex, Vertex)>
-        ensures answer { λ r. ⌜ r ≡ nth (segments-held (now (self .entry))) n ⌝ }
+    // How many vertices there are.
+    pub(crate) fn vertex_count(&self) -> usize
+        ensures answer { λ r. ⌜ r ≡ length (points-in (now (self .entry) .cut)) ⌝ }
+        ensures few { λ r. ⌜ r ≤ 5 ⌝ }
     {
-        match self.cut.segment(n) {
-            Some((from, to)) => Some((self.vertex(from), self.vertex(to))),
-            None => None,
+        match self.cut {
+            Cut::Uncut => 0,
+            Cut::Single(_, _) => 2,
+            Cut::Rising | Cut::Falling => 4,
+            Cut::Star => 5,
+        }
+    }
+
+    // The segments by the numbers of their ends, and blank ones behind them.
+    pub(crate) fn segments(&self) -> [Segment; 4]
+        ensures answer { λ r. ⌜ map (λ s. s .from ∷ s .to ∷ []) (take (length (segments-in (now (self .entry) .cut))) r) ≡ numbers-in (now (self .entry) .cut) ⌝ }
+    {
+        let none = segment(0, 0);
+        match self.cut {
+            Cut::Uncut => [none, none, none, none],
+            Cut::Single(_, _) => [segment(1, 2), none, none, none],
+            Cut::Rising => [segment(1, 4), segment(2, 3), none, none],
+            Cut::Falling => [segment(1, 3), segment(2, 4), none, none],
+            Cut::Star => [segment(1, 5), segment(2, 5), segment(3, 5), segment(4, 5)],
         }
     }
 
@@ -87,6 +126,12 @@ impl Contour {
             }
         }
     }
+}
+
+fn segment(from: usize, to: usize) -> Segment
+    ensures answer { λ r. ⌜ (r .from ≡ from) × (r .to ≡ to) ⌝ }
+{
+    Segment { from, to }
 }
 
 // The heights at the corners of a pixel.

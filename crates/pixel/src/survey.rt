@@ -28,7 +28,7 @@ impl Survey {
                 // The count is that of the pixels.
                 unreachable()
             };
-            segments += Contour::read(source, level, at)?.count();
+            segments += Contour::read(source, level, at)?.cut.count();
         }
         Ok(Survey {
             planes: source.sizes().z,

@@ -42,7 +42,7 @@ use Rattle.pixel_theory.proofs.Faces.{touches, count-touches}
 use Rattle.pixel_theory.proofs.Points.{same-points, apart, reads-off}
 
 -- ---- points of a face
-same-is : (x y : FacePoint) → same x y ≡ true → x ≡ y
+pub same-is : (x y : FacePoint) → same x y ≡ true → x ≡ y
 same-is P0 P0 h = refl
 same-is P0 P1 h = absurd (false≢true h)
 same-is P0 P2 h = absurd (false≢true h)
@@ -99,10 +99,16 @@ every-point C = among-decides face-points C .0 refl
 points-distinct : Distinct face-points
 points-distinct = (
   λ h. false≢true (among-decides (P1 ∷ P2 ∷ P3 ∷ C ∷ []) P0 .1 h),
-  (λ h. false≢true (among-decides (P2 ∷ P3 ∷ C ∷ []) P1 .1 h),
-  (λ h. false≢true (among-decides (P3 ∷ C ∷ []) P2 .1 h),
-  (λ h. false≢true (among-decides (C ∷ []) P3 .1 h),
-  (λ h. false≢true (among-decides [] C .1 h), tt)))),
+  (
+    λ h. false≢true (among-decides (P2 ∷ P3 ∷ C ∷ []) P1 .1 h),
+    (
+      λ h. false≢true (among-decides (P3 ∷ C ∷ []) P2 .1 h),
+      (
+        λ h. false≢true (among-decides (C ∷ []) P3 .1 h),
+        (λ h. false≢true (among-decides [] C .1 h), tt),
+      ),
+    ),
+  ),
 )
 
 -- ---- a point is a vertex exactly where it lies on a segment
@@ -188,7 +194,7 @@ module _ (b : Block) (l : Level) (c : Point) where
         lies-present (corner-height b l c) (corner-height b l (next-x c)) (corner-height b l (next-y c)) (corner-height b l (next-x (next-y c))) x (subst (λ n. 0 < n) (count-is x) (has-counted (on (place-of c x ∷ [])) pieces q h t))
 
   -- the vertex at a point stands at that point's place
-  place-is : (x : FacePoint) → at-pixel (vertex-of c) b l c x .place ≡ place-of c x
+  pub place-is : (x : FacePoint) → at-pixel (vertex-of c) b l c x .place ≡ place-of c x
   place-is P0 = refl
   place-is P1 = refl
   place-is P2 = refl
@@ -287,10 +293,10 @@ which-side : (c : Point) (s : Side) → Has (pixel-sides c) s → (x : OnSide) �
 which-side c s h =
     ⊎-elim (λ e. (p0, e))
     (λ h1. ⊎-elim (λ e. (p1, e))
-        (λ h2. ⊎-elim (λ e. (p2, e))
-            (λ h3. ⊎-elim (λ e. (p3, e)) (λ n. absurd (has-none s n)) (has-cases (side-of c p3) [] s h3))
-            (has-cases (side-of c p2) (side-of c p3 ∷ []) s h2))
-        (has-cases (side-of c p1) (side-of c p2 ∷ side-of c p3 ∷ []) s h1))
+    (λ h2. ⊎-elim (λ e. (p2, e))
+    (λ h3. ⊎-elim (λ e. (p3, e)) (λ n. absurd (has-none s n)) (has-cases (side-of c p3) [] s h3))
+    (has-cases (side-of c p2) (side-of c p3 ∷ []) s h2))
+    (has-cases (side-of c p1) (side-of c p2 ∷ side-of c p3 ∷ []) s h1))
     (has-cases (side-of c p0) (side-of c p1 ∷ side-of c p2 ∷ side-of c p3 ∷ []) s h)
 
 odd-one : (t : Bool) → Odd (one-if t) → t ≡ true
@@ -409,9 +415,13 @@ pixel-sides-once c = distinct-from-map edge-place (pixel-sides c) (distinct-map 
     four-distinct : Distinct (P0 ∷ P1 ∷ P2 ∷ P3 ∷ [])
     four-distinct = (
       λ h. false≢true (among-decides (P1 ∷ P2 ∷ P3 ∷ []) P0 .1 h),
-      (λ h. false≢true (among-decides (P2 ∷ P3 ∷ []) P1 .1 h),
-      (λ h. false≢true (among-decides (P3 ∷ []) P2 .1 h),
-      (λ h. false≢true (among-decides [] P3 .1 h), tt))),
+      (
+        λ h. false≢true (among-decides (P2 ∷ P3 ∷ []) P1 .1 h),
+        (
+          λ h. false≢true (among-decides (P3 ∷ []) P2 .1 h),
+          (λ h. false≢true (among-decides [] P3 .1 h), tt),
+        ),
+      ),
     )
 
 -- ---- a vertex by its place alone

@@ -1,3 +1,4 @@
 pub mod Faces
 pub mod Laws
+pub mod Numbering
 pub mod Points

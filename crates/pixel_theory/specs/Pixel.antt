@@ -1,19 +1,15 @@
 -- What a pixel means: which positions are pixels, and how the level cuts them.
-use mathlib.Core.Bool.{Bool, _&&_, cond}
-use mathlib.Core.List.{List, [], _∷_, map}
+use mathlib.Core.Bool.{Bool, _&&_}
+use mathlib.Core.List.{List, [], _∷_}
 use Prim.Native.Nat.{_+_}
 use lib.Dec.{ltb}
 use lib.IntN.{ℤ}
-use Rattle.std.specs.declared.option.Option.{Option}
-use Rattle.std.specs.declared.option.Option.the-variants.{Some, None}
 use Rattle.block.specs.Block.{Block}
-use Rattle.block.specs.Refusals.{Told, told}
 use Rattle.block.specs.declared.lattice.Point.{Point}
 use Rattle.block.specs.declared.lattice.Sizes.{Sizes}
-use Rattle.block.specs.declared.refusal.Refusal.the-variants.{NoCell}
-use Rattle.cell.specs.Corner.{corner-height, corners-declined}
+use Rattle.cell.specs.Corner.{corner-height}
 use Rattle.cell.specs.Crossing.{along-edge}
-use Rattle.cell.specs.Face.{FaceSegment, face-segments, centre-offsets}
+use Rattle.cell.specs.Face.{centre-offsets}
 use Rattle.cell.specs.Vertex.{on-edge, in-face}
 use Rattle.cell.specs.declared.face.FacePoint.{FacePoint}
 use Rattle.cell.specs.declared.face.FacePoint.the-variants.{P0, P1, P2, P3, C}
@@ -36,10 +32,6 @@ next-y p = record { x = p .x; y = p .y + 1; z = p .z }
 abbrev pub pixel-corners : Point → List Point
 pixel-corners at = at ∷ next-x at ∷ next-y at ∷ next-x (next-y at) ∷ []
 
--- the refusal of a position, if any
-abbrev pub pixel-declined : Block → Level → Point → Option Told
-pixel-declined b l at = cond (is-pixel (b .sizes) at) (corners-declined b l (pixel-corners at)) (Some (told NoCell))
-
 -- a pixel is a face: what a rule over the heights at 00, 10, 01, 11 says of it
 abbrev pub at-pixel : {A : Type 0} → (ℤ → ℤ → ℤ → ℤ → A) → Block → Level → Point → A
 at-pixel rule b l at =
@@ -52,11 +44,3 @@ vertex-of at g00 g10 g01 g11 P1 = on-edge Y (next-x at) (along-edge g10 g11)
 vertex-of at g00 g10 g01 g11 P2 = on-edge X at (along-edge g00 g10)
 vertex-of at g00 g10 g01 g11 P3 = on-edge X (next-y at) (along-edge g01 g11)
 vertex-of at g00 g10 g01 g11 C = in-face Z at (centre-offsets g00 g10 g01 g11 .first) (centre-offsets g00 g10 g01 g11 .second)
-
--- segments by their vertices
-abbrev pub placed : (FacePoint → Vertex) → List FaceSegment → List (Vertex × Vertex)
-placed v ss = map (λ s. (v (s .0), v (s .1))) ss
-
--- the segments by which the level cuts a pixel
-abbrev pub pixel-contour : Block → Level → Point → List (Vertex × Vertex)
-pixel-contour b l at = placed (at-pixel (vertex-of at) b l at) (at-pixel face-segments b l at)

@@ -5,9 +5,10 @@ use lib.ListN.{length}
 use Rattle.std.specs.declared.option.Option.the-variants.{Some, None}
 use Rattle.std.proofs.shelf.Results.{err-from-errBy}
 use Rattle.block.specs.Refusals.{told}
-use Rattle.pixel_theory.specs.Pixel.{pixel-declined, pixel-contour}
+use Rattle.kind.specs.Meaning.{cell-declined}
+use Rattle.pixel_theory.specs.Kind.{pixel}
 use Rattle.pixel.specs.Pixels.{pixel-count}
-use Rattle.pixel.proofs.Counting.{length-more, declined-more, stays, at-numbered}
+use Rattle.pixel.proofs.Counting.{piece-count, length-more, declined-more, stays, at-numbered}
 use Rattle.pixel.proofs.Places.{count-fits}
 use Rattle.pixel.proofs.survey.Survey.of.Needs as need
 
@@ -19,7 +20,7 @@ returns-in-Break-read g c =
     let n = c .of-pixels .ensures .answer in
     let below = subst (λ m. i < m) (c .count-count .ensures .answer) (c .loop-i-test .taken) in
     let at = at-numbered (c .of-pixels .result .sizes) (b .sizes) i (c .in-Some .at) n below (sym (c .in-Some .is) ∙ c .at .ensures .answer) in
-    let here = ap (pixel-declined b l) (sym at) ∙ c .in-Break-read .ensures tt .answer in
+    let here = ap (cell-declined pixel b l) (sym at) ∙ c .in-Break-read .ensures tt .answer in
     let e = err-from-errBy (c .from-residual .result) (c .from-residual .ensures .1) in
     let count = c .count-count .ensures .answer ∙ ap pixel-count n in
     let within : i + 1 ≤ pixel-count (b .sizes) = omega (arith, count, c .loop-i-test .taken) in
@@ -39,8 +40,8 @@ loop-i-again g c =
     let below = subst (λ m. i < m) (c .count-count .ensures .answer) (c .loop-i-test .taken) in
     let at = at-numbered (c .of-pixels .result .sizes) (b .sizes) i (c .in-Some .at) n below (sym (c .in-Some .is) ∙ c .at .ensures .answer) in
     let read = c .in-Continue-read .ensures tt .answer in
-    let here = ap (pixel-declined b l) (sym at) ∙ read .0 in
-    let held = c .count .ensures .answer ∙ ap length (read .1 ∙ ap (pixel-contour b l) at) in (
+    let here = ap (cell-declined pixel b l) (sym at) ∙ read .0 in
+    let held = c .count .ensures .answer ∙ ap length (read .1 .cut-is) ∙ sym (piece-count b l (c .in-Some .at)) ∙ ap (λ p. length (pixel .pieces b l p)) at in (
       declined-more b l i None (c .loop-i .inv .0) here,
       omega (arith, length-more b l i, held, c .loop-i .inv .1),
       omega (arith, c .loop-i .inv .2, c .count .ensures .few),
