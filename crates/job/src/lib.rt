@@ -1,6 +1,7 @@
 // A job, as a buyer sends it: which cells to cut, at which level, of which block.
 ghost use mathlib.Core.Path.{_≡_};
 ghost use Prim.Native.Nat.{_^_, _<_};
+ghost use lib.Dec.{ltb};
 ghost use Rattle.block.specs.Refusals.{Outcome};
 ghost use Rattle.job.specs.Job.{Decodes, job-declined, job-kind, job-p, job-q, job-spare, kind-of, twos-complement};
 use block::bits::bits;
@@ -31,7 +32,7 @@ impl<'a> Job<'a> {
     pub fn decode(bytes: &'a [u8]) -> Result<Job<'a>, Refusal>
         ensures answer { λ r. ⌜ Outcome (job-declined (now (bytes .entry))) (Decodes (now (bytes .entry))) r ⌝ }
     {
-        if bytes.len() > LONGEST {
+        if is_too_long(bytes.len()) {
             return Err(Refusal::Length);
         }
         let [b0, b1, b2, b3, b4, rest @ ..] = bytes else {
@@ -74,6 +75,12 @@ impl Header {
             spare: bits(bytes, 35, 5),
         }
     }
+}
+
+fn is_too_long(length: usize) -> bool
+    ensures answer { λ r. ⌜ r ≡ ltb 1024 length ⌝ }
+{
+    length > LONGEST
 }
 
 fn kind_of(bit: u32) -> CellKind

@@ -87,6 +87,18 @@ fn lengths_and_spare_bits() -> Result<(), Fail> {
     check_eq(refusal(&[0u8; 1025]), 2)
 }
 
+// A job of one row of samples, n bytes long in all: 1,024 is the most.
+#[test]
+fn the_longest_job() -> Result<(), Fail> {
+    let mut bytes = [0u8; 1025];
+    bytes[5] = 0x7f;
+    bytes[6] = 0xd4;
+    check_eq(refusal(&bytes[0..1024]), 0)?;
+    check_eq(refusal(&bytes[0..1023]), 2)?;
+    bytes[6] = 0xd8;
+    check_eq(refusal(&bytes), 2)
+}
+
 #[test]
 fn limits_of_the_level() -> Result<(), Fail> {
     check_eq(level_refusal(16777216, 256), 0)?;

@@ -20,8 +20,8 @@ fn point(x: u32, y: u32, z: u32) -> Point {
 }
 
 // The number of the refusal, or 0.
-fn refusal(sizes: Sizes, samples: &[i16]) -> u8 {
-    match Raster::new(sizes, samples) {
+fn refusal(n: Sizes, samples: &[i16]) -> u8 {
+    match Raster::new(n, samples) {
         Ok(_) => 0,
         Err(refusal) => refusal.number(),
     }

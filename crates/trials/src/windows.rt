@@ -26,11 +26,11 @@ fn point(x: u32, y: u32, z: u32) -> Point {
 }
 
 // The number of the refusal of a window over a block of 3, 2, 2, or 0.
-fn refusal(x: u32, y: u32, z: u32, sizes: Sizes) -> u8 {
+fn refusal(x: u32, y: u32, z: u32, shown: Sizes) -> u8 {
     let Ok(raster) = Raster::new(sizes(3, 2, 2), &ROW) else {
         return 255;
     };
-    match Window::new(&raster, Point { x, y, z }, sizes) {
+    match Window::new(&raster, Point { x, y, z }, shown) {
         Ok(_) => 0,
         Err(no) => no.refusal.number(),
     }
