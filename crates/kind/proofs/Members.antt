@@ -2,11 +2,13 @@
 use mathlib.Core.Path.{_≡_, refl, sym, ap, subst, _∙_}
 use mathlib.Core.Bool.{Bool, true, false, cond}
 use mathlib.Core.List.{List, [], _∷_, _++_, map}
-use mathlib.Core.Logic.{_⊎_, inl, inr, ⊎-elim}
-use Prim.Native.Nat.{ℕ, zero, suc, _<_}
+use mathlib.Core.Logic.{_↔_, _⊎_, inl, inr, ⊎-elim}
+use Prim.Native.Nat.{ℕ, zero, suc, _+_, _≤_, _<_}
 use native.Mathlib.Omega.{arith}
 use lib.ListN.{length, getD}
 use Rattle.std.specs.shelf.Lists.{Has, kept-by}
+use Rattle.std.proofs.shelf.Lists.{length-map}
+use Rattle.std.proofs.shelf.Sums.{length-kept-by, countBy-le-length}
 use Rattle.std.proofs.shelf.Tests.{false≢true}
 use Rattle.std.proofs.shelf.Elements.{has-append-left, has-append-right}
 use Rattle.kind.specs.Meaning.{Distinct}
@@ -35,6 +37,48 @@ module _ {X : Type 0} where
       ⊎-elim (λ e. inl (has-here y xs x e))
       (λ r. ⊎-elim (λ a. inl (has-there y xs x a)) (λ b. inr b) (has-append-cases xs ys x r))
       (has-cases y (xs ++ ys) x h)
+
+-- `Has` of a list of two
+module _ {X : Type 0} (u v : X) where
+  abbrev pair : List X
+  pair = u ∷ v ∷ []
+
+  pub has-first : Has pair u
+  has-first = has-here u (v ∷ []) u refl
+
+  pub has-second : Has pair v
+  has-second = has-there u (v ∷ []) v (has-here v [] v refl)
+
+  pub pair-cases : (x : X) → Has pair x → (u ≡ x) ⊎ (v ≡ x)
+  pair-cases x h = ⊎-elim inl (λ r. ⊎-elim inr (λ z. absurd (has-none x z)) (has-cases v [] x r)) (has-cases u (v ∷ []) x h)
+
+module _ {X : Type 0} (u v u′ v′ : X) where
+  -- two lists of two with the same elements have them in the same order or in the other
+  pub pair-same : ((x : X) → Has (u ∷ v ∷ []) x ↔ Has (u′ ∷ v′ ∷ []) x) → ((u ≡ u′) × (v ≡ v′)) ⊎ ((u ≡ v′) × (v ≡ u′))
+  pair-same h =
+      go (pair-cases u′ v′ u (h u .0 (has-first u v))) (pair-cases u′ v′ v (h v .0 (has-second u v)))
+      (pair-cases u v u′ (h u′ .1 (has-first u′ v′))) (pair-cases u v v′ (h v′ .1 (has-second u′ v′)))
+    where
+      go : (u′ ≡ u) ⊎ (v′ ≡ u) → (u′ ≡ v) ⊎ (v′ ≡ v) → (u ≡ u′) ⊎ (v ≡ u′) → (u ≡ v′) ⊎ (v ≡ v′) → ((u ≡ u′) × (v ≡ v′)) ⊎ ((u ≡ v′) × (v ≡ u′))
+      go (inl a) (inr b) c d = inl (sym a, sym b)
+      go (inr a) (inl b) c d = inr (sym a, sym b)
+      go (inl a) (inl b) c (inl d) = inr (d, sym b)
+      go (inl a) (inl b) c (inr d) = inl (sym a, d)
+      go (inr a) (inr b) (inl c) d = inl (c, sym b)
+      go (inr a) (inr b) (inr c) d = inr (sym a, c)
+
+-- `Has` of a list of three
+module _ {X : Type 0} (u v w : X) where
+  abbrev three : List X
+  three = u ∷ v ∷ w ∷ []
+
+  pub three-has : (x : X) → (u ≡ x) ⊎ (v ≡ x) ⊎ (w ≡ x) → Has three x
+  three-has x (inl e) = has-here u (v ∷ w ∷ []) x e
+  three-has x (inr (inl e)) = has-there u (v ∷ w ∷ []) x (has-here v (w ∷ []) x e)
+  three-has x (inr (inr e)) = has-there u (v ∷ w ∷ []) x (has-there v (w ∷ []) x (has-here w [] x e))
+
+  pub three-cases : (x : X) → Has three x → (u ≡ x) ⊎ (v ≡ x) ⊎ (w ≡ x)
+  three-cases x h = ⊎-elim inl (λ r. inr (pair-cases v w x r)) (has-cases u (v ∷ w ∷ []) x h)
 
 -- `Has` of a `map`
 module _ {X Y : Type 0} (f : X → Y) where
@@ -116,3 +160,27 @@ module _ {X Y : Type 0} (f : X → Y) where
   distinct-map inj [] d = tt
   distinct-map inj (x ∷ xs) d =
       (λ h. let t = map-has f xs (f x) h in d .0 (subst (Has xs) (inj (t .0) x (t .2)) (t .1)), distinct-map inj xs (d .1))
+
+  pub length-kept : (p : X → Bool) (xs : List X) → length (map f (kept-by p xs)) ≤ length xs
+  length-kept p xs = omega (arith, length-map (kept-by p xs) f, length-kept-by p xs, countBy-le-length p xs)
+
+-- A list whose elements have the numbers k, k + 1 and so on, by a function that tells each its number.
+abbrev pub Numbered : {Y : Type 0} → (Y → ℕ) → ℕ → List Y → Type 0
+Numbered number k [] = Unit {0}
+Numbered number k (y ∷ ys) = (number y ≡ k) × Numbered number (suc k) ys
+
+module _ {Y : Type 0} (number : Y → ℕ) where
+  numbered-from : (k : ℕ) (ys : List Y) → Numbered number k ys → (y : Y) → Has ys y → k ≤ number y
+  numbered-from k [] n y h = absurd (has-none y h)
+  numbered-from k (z ∷ ys) n y h =
+      ⊎-elim (λ e. let m = n .0 in let q = ap number e in omega arith) (λ r. let m = numbered-from (suc k) ys (n .1) y r in omega arith) (has-cases z ys y h)
+
+  pub numbered-distinct : (k : ℕ) (ys : List Y) → Numbered number k ys → Distinct ys
+  numbered-distinct k [] n = tt
+  numbered-distinct k (y ∷ ys) n =
+      (λ h. let a = numbered-from (suc k) ys (n .1) y h in let b = n .0 in omega arith, numbered-distinct (suc k) ys (n .1))
+
+  pub numbered-at : (k : ℕ) (ys : List Y) → Numbered number k ys → (m : ℕ) → m < length ys → (d : Y) → number (getD ys m d) ≡ k + m
+  numbered-at k [] n m l d = absurd (omega arith)
+  numbered-at k (y ∷ ys) n zero l d = let e = n .0 in omega arith
+  numbered-at k (y ∷ ys) n (suc m) l d = let e = numbered-at (suc k) ys (n .1) m (omega arith) d in omega arith

@@ -1,13 +1,14 @@
 -- What the tests of places decide: that two are equal, or that a list has one.
-use mathlib.Core.Path.{_≡_, refl}
-use mathlib.Core.Bool.{Bool, true, _&&_}
+use mathlib.Core.Path.{_≡_, refl, sym}
+use mathlib.Core.Bool.{Bool, true, false, _&&_}
 use lib.Dec.{eqb}
 use mathlib.Core.List.{List}
+use mathlib.Core.Logic.{_⊎_, inl, inr, ⊎-elim}
 use Rattle.std.specs.Orderings.{Decides}
 use Rattle.std.specs.declared.option.Option.{Option}
 use Rattle.std.specs.declared.option.Option.the-variants.{Some, None}
 use Rattle.std.specs.shelf.Lists.{Has}
-use Rattle.std.proofs.shelf.Tests.{false≢true, eqb-true, eq-eqb, and-parts, and-from}
+use Rattle.std.proofs.shelf.Tests.{false≢true, both-ways, cases-bool, eqb-true, eq-eqb, and-parts, and-from}
 use Rattle.std.proofs.shelf.Ways.{decides-by-or}
 use Rattle.kind.specs.Meaning.{same-axis, same-form, same-point, same-place, names}
 use Rattle.cell.specs.declared.vertex.Axis.{Axis}
@@ -80,3 +81,14 @@ same-place-decides p q = (equal, λ e. rw (← e) self)
 -- a list of places names a place exactly if it has it
 pub names-decides : (ps : List Place) (p : Place) → Decides (names ps p) (Has ps p)
 names-decides ps p = decides-by-or (λ q. same-place q p) (λ q. q ≡ p) (λ qs. names qs p) (λ q. same-place-decides q p) refl (λ _ _. refl) ps
+
+-- a list of places has a place or not
+pub has-or-not : (ps : List Place) (p : Place) → Has ps p ⊎ (Has ps p → ⊥)
+has-or-not ps p =
+    ⊎-elim (λ h. inl (names-decides ps p .0 h)) (λ h. inr (λ k. both-ways (names ps p) h (names-decides ps p .1 k))) (cases-bool (names ps p))
+
+-- two tests that say the same are equal
+pub same-answer : (s t : Bool) → (s ≡ true → t ≡ true) → (t ≡ true → s ≡ true) → s ≡ t
+same-answer true t f g = sym (f refl)
+same-answer false true f g = absurd (false≢true (g refl))
+same-answer false false f g = refl

@@ -1,0 +1,11 @@
+pub mod Sets
+pub mod Turns
+pub mod Clips
+pub mod Cases
+pub mod Voxels
+pub mod Shells
+pub mod Digits
+pub mod Masks
+pub mod Reading
+pub mod Entering
+pub mod Order

@@ -1,0 +1,4 @@
+pub mod Faces
+pub mod Clip
+pub mod Laws
+pub mod Masks
