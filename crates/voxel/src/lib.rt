@@ -1,0 +1,2 @@
+// Voxels: the unit cubes of a block, and the triangles by which the level cuts them.
+pub mod shell;
