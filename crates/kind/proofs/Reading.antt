@@ -40,7 +40,7 @@ serves-off l at (Err f) h = absurd (some-none (told (Faulty f)) h)
 serves-off l at (Ok v) h = untold (on-level (height-above l v)) (told (OnLevel at)) h
 
 -- the refusal of the first corner, and that of the rest
-both-none : (o rest : Option Told) → _≡_ {A = Option Told} (elim o [ Some t ↦ Some t | None ↦ rest ]) None → (o ≡ None) × (rest ≡ None)
+pub both-none : (o rest : Option Told) → _≡_ {A = Option Told} (elim o [ Some t ↦ Some t | None ↦ rest ]) None → (o ≡ None) × (rest ≡ None)
 both-none None rest h = (refl, h)
 both-none (Some t) rest h = absurd (some-none t h)
 

@@ -1,3 +1,4 @@
 pub mod Corners
 pub mod Entries
+pub mod Planes
 pub mod Runs

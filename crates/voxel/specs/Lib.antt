@@ -1,3 +1,4 @@
 pub mod Progress
+pub mod Reading
 pub mod Shell
 pub mod Table

@@ -1,2 +1,3 @@
 // Voxels: the unit cubes of a block, and the triangles by which the level cuts them.
+pub mod reading;
 pub mod shell;

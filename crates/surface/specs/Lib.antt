@@ -1,0 +1,5 @@
+pub mod Changes
+pub mod Kept
+pub mod Ledger
+pub mod Room
+pub mod Surface
