@@ -3,3 +3,4 @@ pub mod joint;
 pub mod kind;
 pub mod piece;
 pub mod segment;
+pub mod triangle;

@@ -59,3 +59,7 @@ is-below z = is-minus (sign z)
 -- all corners are on the side of the first
 abbrev pub OneSide : (ℕ → ℤ) → Type 0
 OneSide g = (k : ℕ) → k < corner-count → is-below (g k) ≡ is-below (g 0)
+
+-- no corner is on the level
+abbrev pub AllOff : List Height → Type 0
+AllOff hs = meets-level (by-corner hs) ≡ false

@@ -19,11 +19,20 @@ use cell::level::Level;
 pub fn is_voxel(sizes: Sizes, at: Point) -> bool
     ensures answer { λ r. ⌜ r ≡ is-voxel sizes at ⌝ }
 {
-    at.x < sizes.x && at.y < sizes.y && at.z < sizes.z && at.x + 1 < sizes.x && at.y + 1 < sizes.y && at.z + 1 < sizes.z
+    at.x < sizes.x
+        && at.y < sizes.y
+        && at.z < sizes.z
+        && at.x + 1 < sizes.x
+        && at.y + 1 < sizes.y
+        && at.z + 1 < sizes.z
 }
 
 // The heights at the corners of a voxel, each read once, in order.
-pub(crate) fn read_corners<S: Source>(source: &S, level: Level, at: Point) -> Result<[Height; 8], Refusal>
+pub(crate) fn read_corners<S: Source>(
+    source: &S,
+    level: Level,
+    at: Point,
+) -> Result<[Height; 8], Refusal>
     ensures answer { λ r. ⌜ Outcome (cell-declined voxel (S·Source .block (now (source .entry))) level at) (HeightsAt (S·Source .block (now (source .entry))) level (corners at)) r ⌝ }
 {
     if !is_voxel(source.sizes(), at) {
@@ -31,7 +40,16 @@ pub(crate) fn read_corners<S: Source>(source: &S, level: Level, at: Point) -> Re
     }
     let low = read_four(source, level, at)?;
     let high = read_four(source, level, above(at))?;
-    Ok([low[0], low[1], low[2], low[3], high[0], high[1], high[2], high[3]])
+    Ok([
+        low[0],
+        low[1],
+        low[2],
+        low[3],
+        high[0],
+        high[1],
+        high[2],
+        high[3],
+    ])
 }
 
 // The four corners in one plane.
@@ -53,19 +71,31 @@ fn beside(p: Point) -> Point
     requires { ⌜ p .x + 1 < 2 ^ 32 ⌝ }
     ensures answer { λ r. ⌜ r ≡ next X p ⌝ }
 {
-    Point { x: p.x + 1, y: p.y, z: p.z }
+    Point {
+        x: p.x + 1,
+        y: p.y,
+        z: p.z,
+    }
 }
 
 fn behind(p: Point) -> Point
     requires { ⌜ p .y + 1 < 2 ^ 32 ⌝ }
     ensures answer { λ r. ⌜ r ≡ next Y p ⌝ }
 {
-    Point { x: p.x, y: p.y + 1, z: p.z }
+    Point {
+        x: p.x,
+        y: p.y + 1,
+        z: p.z,
+    }
 }
 
 fn above(p: Point) -> Point
     requires { ⌜ p .z + 1 < 2 ^ 32 ⌝ }
     ensures answer { λ r. ⌜ r ≡ next Z p ⌝ }
 {
-    Point { x: p.x, y: p.y, z: p.z + 1 }
+    Point {
+        x: p.x,
+        y: p.y,
+        z: p.z + 1,
+    }
 }
