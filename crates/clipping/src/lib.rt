@@ -5,10 +5,14 @@ ghost use Rattle.clipping.specs.Laws.{Clips, Voxels, Second, Shells};
 pub fn clipping_stands()
     ensures clips { λ _. ⌜ Clips ⌝ }
     ensures second { λ _. ⌜ Second ⌝ }
-{}
+{
+    // Nothing to run: the contract is the theorem.
+}
 
 // The segments of every voxel off the level are a tame set, and its triangles fill them.
 pub fn voxels_stand()
     ensures voxels { λ _. ⌜ Voxels ⌝ }
     ensures shells { λ _. ⌜ Shells ⌝ }
-{}
+{
+    // Nothing to run: the contract is the theorem.
+}

@@ -3,9 +3,9 @@ ghost use Rattle.kind.specs.Meaning.{Laws};
 ghost use Rattle.voxel_theory.specs.Voxel.{voxel, Small};
 
 // The triangles of a voxel close up against the segments of its faces, and voxels keep the other laws of kinds; a voxel has at most eighteen vertices and twenty-two triangles.
-pub fn voxels_keep_the_laws() -> u8
+pub fn voxels_keep_the_laws()
     ensures laws { λ _. ⌜ Laws voxel ⌝ }
     ensures small { λ _. ⌜ Small ⌝ }
 {
-    0
+    // Nothing to run: the contract is the theorem.
 }
