@@ -12,7 +12,7 @@ use Rattle.cell.specs.Level.{Sign, minus, none, plus, sign, on-level}
 use Rattle.cell.specs.declared.level.Height.{Height}
 use Rattle.clipping.specs.Faces.{corner-count, local-vertices, voxel-segments}
 use Rattle.clipping.specs.Clip.{Triangle, lowest, triangles, vertices-on}
-use Rattle.clipping.specs.Laws.{most-triangles}
+use Rattle.clipping.specs.Laws.{most-triangles, Filled}
 use Rattle.voxel.specs.declared.shell.LocalTriangle.{LocalTriangle}
 use Rattle.voxel.specs.declared.shell.Shell.{Shell}
 
@@ -41,6 +41,10 @@ named t = (t .apex, t .low, t .high)
 
 abbrev pub told : Shell → Local
 told s = (map named (take (s .«triangle_count») (s .triangles)), take (s .«vertex_count») (s .vertices))
+
+-- Its triangles close up against the segments of the voxel's faces: two vertices lie together on an odd number of triangles exactly when a segment joins them.
+abbrev pub Closed : (ℕ → ℤ) → Shell → Type 0
+Closed g s = Filled (voxel-segments g) (told s .0)
 
 -- its counts fit its arrays
 pub record Fits (s : Shell) : Type 0 where

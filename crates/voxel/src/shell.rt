@@ -5,7 +5,7 @@ ghost use Rattle.std.specs.Options.{mapped, Cases};
 ghost use Rattle.cell.specs.Level.{on-level};
 ghost use Rattle.clipping.specs.Faces.{Off, corner-count, Segment, local-vertices, placed, segments-on, voxel-segments};
 ghost use Rattle.clipping.specs.Clip.{lowest, triangles};
-ghost use Rattle.voxel.specs.Shell.{by-corner, Fits, is-below, OneSide, shell-of, shell-rule, told, named};
+ghost use Rattle.voxel.specs.Shell.{by-corner, Closed, Fits, is-below, OneSide, shell-of, shell-rule, told, named};
 ghost use mathlib.Core.List.{List, map};
 ghost use Prim.Native.Nat.{_<_, _≤_};
 ghost use lib.ListN.{take, getD};
@@ -54,6 +54,7 @@ const BLANK: LocalTriangle = LocalTriangle {
 // The shell of a voxel, or nothing if the level meets one of its corners.
 pub fn shell_of(heights: &[Height; CORNERS]) -> Option<Shell>
     ensures answer { λ r. ⌜ mapped told r ≡ shell-rule (by-corner (now (heights .entry))) ⌝ }
+    ensures closed { λ r. ⌜ Cases r (Unit {0}) (Closed (by-corner (now (heights .entry)))) ⌝ }
     ensures fits { λ r. ⌜ Cases r (Unit {0}) Fits ⌝ }
 {
     if first_on_level(heights) < CORNERS {
