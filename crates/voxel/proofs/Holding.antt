@@ -39,8 +39,8 @@ use Rattle.voxel_theory.proofs.Places.{Matches, place-test, faces-match}
 use Rattle.voxel_theory.proofs.Reading.{off-level}
 use Rattle.voxel.specs.Local.{all-local, local-vertex, centre-vertex, rank, numbered, face-cuts, paired}
 use Rattle.voxel.specs.Reading.{HeightsAt, Near}
-use Rattle.voxel.specs.Shell.{AllOff, Local, by-corner, meets-level, shell-of, shell-rule}
-use Rattle.voxel.proofs.Corners.{same-segments}
+use Rattle.shell.specs.Shell.{AllOff, Local, by-corner, meets-level, shell-of, shell-rule}
+use Rattle.shell.proofs.Corners.{same-segments}
 
 -- ---- lists
 at-map : {X Y : Type 0} (f : X → Y) (xs : List X) (k : ℕ) (z : Y) (d : X) → k < length xs → getD (map f xs) k z ≡ f (getD xs k d)

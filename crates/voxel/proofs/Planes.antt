@@ -15,7 +15,7 @@ use Rattle.cell.specs.declared.level.Height.{Height}
 use Rattle.cell.specs.declared.level.Level.{Level}
 use Rattle.kind.proofs.Reading.{both-none}
 use Rattle.voxel.specs.Reading.{four, HeightsAt}
-use Rattle.voxel.proofs.Corners.{corner-read}
+use Rattle.shell.proofs.Corners.{corner-read}
 
 -- where the corners of two lists serve, those of both do
 pub all-serve : (b : Block) (l : Level) (ps qs : List Point) → corners-declined b l ps ≡ None → corners-declined b l qs ≡ None → corners-declined b l (ps ++ qs) ≡ None

@@ -20,7 +20,7 @@ use Rattle.clipping.specs.Faces.{Placed, on-face, faces, across-z}
 use Rattle.kind.specs.Meaning.{Joint}
 use Rattle.kind.specs.declared.triangle.Triangle.{Triangle as NumberedTriangle}
 use Rattle.voxel_theory.specs.Voxel.{corners, sides, place-of}
-use Rattle.voxel.specs.Shell.{by-corner}
+use Rattle.shell.specs.Shell.{by-corner}
 use Rattle.voxel.specs.declared.held.VoxelShape.{VoxelShape}
 
 abbrev pub corner-at : Point → ℕ → Point

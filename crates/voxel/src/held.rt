@@ -1,13 +1,13 @@
 // A voxel that was read.
 ghost use Prim.Native.Nat.{_^_, _+_, _<_, _≤_};
-ghost use Rattle.voxel.specs.Shell.{AllOff};
-use crate::shell::CORNERS;
-use crate::shell::MOST_TRIANGLES;
-use crate::shell::VERTICES;
+ghost use Rattle.shell.specs.Shell.{AllOff};
 use block::lattice::Point;
 use cell::level::Height;
 use cell::vertex::Vertex;
 use kind::triangle::Triangle;
+use shell::CORNERS;
+use shell::MOST_TRIANGLES;
+use shell::VERTICES;
 
 // Where a voxel lies, the heights at its corners, its vertices and its triangles; the arrays have room for the most that a voxel has.
 #[derive(Clone, Copy)]

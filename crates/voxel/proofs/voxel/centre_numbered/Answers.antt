@@ -1,7 +1,7 @@
 use mathlib.Core.Path.{_∙_}
 use Prim.Native.Nat.{_≤_}
 use native.Mathlib.Omega.{arith}
-use Rattle.voxel.specs.Shell.{by-corner}
+use Rattle.shell.specs.Shell.{by-corner}
 use Rattle.voxel.proofs.Locals.{last-local}
 use Rattle.voxel.proofs.voxel.centre_numbered.Needs as need
 

@@ -5,7 +5,7 @@ use native.Mathlib.Omega.{arith}
 use Rattle.std.specs.declared.option.Option.the-variants.{Some, None}
 use Rattle.std.proofs.shelf.Tests.{both-ways}
 use Rattle.voxel_theory.specs.Voxel.{place-of}
-use Rattle.voxel.specs.Shell.{by-corner}
+use Rattle.shell.specs.Shell.{by-corner}
 use Rattle.voxel.proofs.Borders.{face-off, cut-is}
 use Rattle.voxel.proofs.Holding.{off-from}
 use Rattle.voxel.proofs.voxel.cut_of.Needs as need

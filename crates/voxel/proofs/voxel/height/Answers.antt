@@ -1,6 +1,6 @@
 use mathlib.Core.Path.{sym}
 use native.Mathlib.Omega.{arith}
-use Rattle.voxel.proofs.Corners.{corner-read}
+use Rattle.shell.proofs.Corners.{corner-read}
 use Rattle.voxel.proofs.voxel.height.Needs as need
 
 pub returns : need.returns

@@ -6,8 +6,8 @@ use lib.ListN.{length, getD, take, length-set}
 use Rattle.std.proofs.shelf.Lists.{take-more-set, take-all, map-more, map-push}
 use Rattle.kind.specs.declared.triangle.Triangle.{Triangle}
 use Rattle.voxel.specs.Local.{numbered}
-use Rattle.voxel.specs.Shell.{named}
-use Rattle.voxel.specs.declared.shell.LocalTriangle.{LocalTriangle}
+use Rattle.shell.specs.Shell.{named}
+use Rattle.shell.specs.declared.LocalTriangle.{LocalTriangle}
 use Rattle.voxel.proofs.voxel.number_triangles.Needs as need
 
 abbrev numbers : Triangle → List ℕ

@@ -2,7 +2,7 @@ use mathlib.Core.Path.{_≡_}
 use mathlib.Core.List.{[], _∷_, map}
 use lib.ListN.{length, take}
 use Rattle.voxel.specs.Local.{numbered}
-use Rattle.voxel.specs.Shell.{named}
+use Rattle.shell.specs.Shell.{named}
 use Rattle.voxel.proofs.voxel.number_triangles.Given as given
 
 abbrev pub Inv-loop-i : given.InvT-loop-i

@@ -1,5 +1,5 @@
 use mathlib.Core.Path.{ap, _∙_}
-use Rattle.voxel.specs.Shell.{by-corner}
+use Rattle.shell.specs.Shell.{by-corner}
 use Rattle.voxel.proofs.Holding.{place-local}
 use Rattle.voxel.proofs.voxel.place.Needs as need
 

@@ -4,7 +4,7 @@ use native.Mathlib.Omega.{arith}
 use lib.ListN.{length, take, length-set}
 use Rattle.std.proofs.shelf.Lists.{take-more-set, take-all, map-more}
 use Rattle.voxel.specs.Local.{local-vertex}
-use Rattle.voxel.specs.Shell.{by-corner}
+use Rattle.shell.specs.Shell.{by-corner}
 use Rattle.voxel.proofs.voxel.place_vertices.Needs as need
 
 pub loop-i-again : need.loop-i-again

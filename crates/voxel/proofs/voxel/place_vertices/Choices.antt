@@ -2,7 +2,7 @@ use mathlib.Core.Path.{_≡_}
 use mathlib.Core.List.{map}
 use lib.ListN.{length, take}
 use Rattle.voxel.specs.Local.{local-vertex}
-use Rattle.voxel.specs.Shell.{by-corner}
+use Rattle.shell.specs.Shell.{by-corner}
 use Rattle.voxel.proofs.voxel.place_vertices.Given as given
 
 abbrev pub Inv-loop-i : given.InvT-loop-i

@@ -6,7 +6,7 @@ use Rattle.std.specs.declared.option.Option.the-variants.{Some, None}
 use Rattle.clipping.specs.Faces.{faces}
 use Rattle.voxel_theory.specs.Voxel.{sides}
 use Rattle.voxel.specs.Local.{local-vertex, numbered, face-cuts, paired}
-use Rattle.voxel.specs.Shell.{by-corner, shell-of, told}
+use Rattle.shell.specs.Shell.{by-corner, shell-of, told}
 use Rattle.voxel.proofs.Holding.{vertices-held, pieces-held, borders-held, read-off, triangles-proper, shell-told, near}
 use Rattle.voxel.proofs.voxel.VoxelKind.read.Needs as need
 
