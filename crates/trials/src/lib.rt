@@ -1,9 +1,11 @@
-// Examples of what the sources and jobs answer at the edges of the rules.
+// Examples of what sources, jobs and voxels answer at the edges of the rules.
 #[cfg(test)]
 mod jobs;
 #[cfg(test)]
 mod packed;
 #[cfg(test)]
 mod rasters;
+#[cfg(test)]
+mod voxels;
 #[cfg(test)]
 mod windows;
