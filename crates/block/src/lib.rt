@@ -1,4 +1,6 @@
 // Sampled blocks, and the sources that tell them.
+#![tactic(auto)]
+
 pub mod bits;
 mod extent;
 pub mod fault;

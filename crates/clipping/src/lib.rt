@@ -1,4 +1,6 @@
 // The theory of clipping: how the segments of a voxel's faces make triangles. There is nothing to run here: the contracts state the theorems.
+#![tactic(auto)]
+
 ghost use Rattle.clipping.specs.Laws.{Clips, Voxels, Second, Shells};
 
 // The clipping of every tame set of segments ends, and its triangles fill the set.

@@ -1,4 +1,6 @@
 // A job, as a buyer sends it: which cells to cut, at which level, of which block.
+#![tactic(auto)]
+
 ghost use Rattle.std.specs.Prelude.{◌≡◌, ◌^◌, ◌<◌, nat_lt};
 ghost use Rattle.block.specs.Refusals.{Outcome};
 ghost use Rattle.job.specs.Job.{Decodes, job_declined, job_kind, job_p, job_q, job_spare, kind_of, twos_complement};

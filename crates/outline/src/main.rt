@@ -1,4 +1,6 @@
 // Traces the contours of a scanned slice: a job on standard input, its segments on standard output.
+#![tactic(auto)]
+
 ghost use Rattle.std.specs.Prelude.{◌≤◌, length, IfOk};
 
 use block::packed::Packed;

@@ -1,4 +1,6 @@
 // What pixels mean, and the proof that they keep the laws of kinds.
+#![tactic(auto)]
+
 ghost use Rattle.kind.specs.Meaning.{Laws};
 ghost use Rattle.pixel_theory.specs.Kind.{pixel};
 

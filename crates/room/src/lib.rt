@@ -1,4 +1,6 @@
 // How many slots suffice for the voxels of a block, and for its pixels.
+#![tactic(auto)]
+
 ghost use Rattle.room.specs.Room.{PixelsHaveRoom, VoxelsHaveRoom};
 
 // With one cell slot, 18 vertex slots and 22 piece slots for each voxel of the block no take is declined for want of slots.

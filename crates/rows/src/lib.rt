@@ -1,4 +1,6 @@
 // The worked rows: examples that the rules decide, shown by one proof over the whole list.
+#![tactic(auto)]
+
 ghost use Rattle.std.specs.Prelude.{◌≡◌, length};
 ghost use Rattle.rows.specs.Rows.{rows, RowsStand};
 

@@ -1,4 +1,6 @@
 // The triangles of a voxel, from the heights at its corners.
+#![tactic(auto)]
+
 ghost use Rattle.std.specs.Prelude.{◌≡◌, ◌<◌, ◌≤◌, true, List, map, take, IfSome, count_ones, nat_eq, slice_index};
 ghost use Rattle.std.specs.Option.{option_map};
 ghost use Rattle.cell.specs.Level.{on_level};

@@ -1,4 +1,6 @@
 // Rows of slots that are handed over: what is looked up in them, and what a take or a withdrawal writes there.
+#![tactic(auto)]
+
 pub mod cells;
 pub mod joints;
 pub mod pieces;

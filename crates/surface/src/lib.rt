@@ -1,4 +1,6 @@
 // What is true of every ledger, whatever calls led to it.
+#![tactic(auto)]
+
 ghost use Rattle.surface.specs.Changes.{Changes, Counted, Resent, Undone};
 ghost use Rattle.surface.specs.Kept.{AlwaysKept};
 ghost use Rattle.surface.specs.Room.{BoxBounds, EnoughRoom};

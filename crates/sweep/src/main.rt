@@ -1,4 +1,6 @@
 // Cuts every voxel of a few made-up blocks: what came out goes to standard output, how fast it went to standard error.
+#![tactic(auto)]
+
 ghost use Rattle.std.specs.Prelude.{◌<◌};
 
 use block::lattice::{Point, Sizes};

@@ -1,4 +1,6 @@
 // Examples of what sources, jobs and voxels answer at the edges of the rules.
+#![tactic(auto)]
+
 #[cfg(test)]
 mod jobs;
 #[cfg(test)]

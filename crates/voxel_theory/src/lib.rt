@@ -1,4 +1,6 @@
 // What voxels mean, and the proof that they keep the laws of kinds.
+#![tactic(auto)]
+
 ghost use Rattle.kind.specs.Meaning.{Laws};
 ghost use Rattle.voxel_theory.specs.Voxel.{voxel, Small};
 

@@ -11,7 +11,7 @@ returns c =
     let n = c.args.width in
     let m = 40 - start % 8 - n in
     let at = start / 8 in
-    let t = c.type-inv.bytes in
+    let t = c.ok.bytes in
     let small : Bytes (five bytes at) = ((t at).fits, ((t (at + 1)).fits, ((t (at + 2)).fits, ((t (at + 3)).fits, ((t (at + 4)).fits, tt))))) in
     let same =
     masked (c.word.result / 2 ^ m) n c.requires ∙ ap (λ w. w / 2 ^ m % 2 ^ n) c.word.ensures.answer

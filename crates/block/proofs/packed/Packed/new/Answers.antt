@@ -20,5 +20,5 @@ returns c =
     let d = c.decode-header.ensures in
     let bytes = c.args.bytes.now in
     let long : 5 ≤ length bytes = search rules in
-    let declined = sym (declined_is bytes (sizes_of h.extent) h.width_less_one h.spare long d.sizes d.width.0 d.spare) ∙ c.in-ok-check.ensures.answer.0 in
+    let declined = sym (declined_is bytes (sizes_of h.extent) h.width_less_one h.spare long d.sizes d.width.0 d.spare) ∙ c.in_ok-check.ensures.answer.0 in
     record { answer = (declined, block_is bytes (sizes_of h.extent) h.width_less_one h.spare long d.sizes d.width.0 d.spare d.width.1) }
