@@ -6,14 +6,14 @@ use Rattle.shell.proofs.clip.Goals as goal
 fits : (c : goal.After-turn) → c.loop-v.n < 22
 fits c = room_left c.args.links.now c.loop-v.links c.loop-v.out c.loop-v.n c.loop-v.v c.requires c.loop-v.invariant.0 c.loop-v.invariant.2 (omega arith)
 
-pub offset-bounds-out-n : goal.offset-bounds-out-n
-offset-bounds-out-n c = let h = fits c in search rules
+pub offset_bounds-out-n : goal.offset_bounds-out-n
+offset_bounds-out-n c = let h = fits c in search rules
 
 pub bounds-out-n : goal.bounds-out-n
 bounds-out-n c = fits c
 
-pub overflow-add-n : goal.overflow-add-n
-overflow-add-n c = let h = fits c in search rules
+pub overflow_add-n : goal.overflow_add-n
+overflow_add-n c = let h = fits c in search rules
 
 pub loop-v-smaller : goal.loop-v-smaller
 loop-v-smaller c =

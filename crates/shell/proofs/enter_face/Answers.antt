@@ -12,7 +12,7 @@ unreachable-requires c =
     both_ways _
     (read_off c.args.heights.now c.told-heights c.requires.off (placed_of c.args.entry) i.c00 i.c10 i.c01 i.c11
     c.index-heights-entry.result c.index-heights-entry-2.result c.index-heights-entry-3.result c.index-heights-entry-4.result)
-    c.in-default.ensures.follows
+    c.in_default.ensures.follows
 
 pub returns : goal.returns
 returns c =

@@ -7,12 +7,12 @@ use Rattle.shell.proofs.first_on_level.Goals as goal
 
 pub loop-k-preserved : goal.loop-k-preserved
 loop-k-preserved c = below_more _ _ c.loop-k.invariant
-    (ap on_level (corner_read c.args.heights.now c.loop-k.k c.index-heights-k.result (omega arith)) ∙ sym c.is-on-level.ensures.answer ∙ c.if-is-on-level.false)
+    (ap on_level (corner_read c.args.heights.now c.loop-k.k c.index-heights-k.result (omega arith)) ∙ sym c.is_on_level.ensures.answer ∙ c.if-is_on_level.false)
 
-pub returns-then-is-on-level : goal.returns-then-is-on-level
-returns-then-is-on-level c = record {
+pub returns-then-is_on_level : goal.returns-then-is_on_level
+returns-then-is_on_level c = record {
   answer = lowest_found (λ k. on_level (by_corner c.args.heights.now k)) 8 c.loop-k.k (omega arith)
-      (ap on_level (corner_read c.args.heights.now c.loop-k.k c.index-heights-k.result (omega arith)) ∙ sym c.is-on-level.ensures.answer ∙ c.if-is-on-level.true)
+      (ap on_level (corner_read c.args.heights.now c.loop-k.k c.index-heights-k.result (omega arith)) ∙ sym c.is_on_level.ensures.answer ∙ c.if-is_on_level.true)
       c.loop-k.invariant;
 }
 

@@ -17,12 +17,12 @@ off g none k h = (lowest_is (λ k. on_level (g k)) 8).first k (omega (arith, non
 closed : (g : ℕ → ℤ) (s : Shell) → Off g → told s ≡ shell_of g → Closed g s
 closed g s o same = subst (λ (l : Local). Filled (voxel_segments g) l.0) (sym same) (shells g o).0
 
-pub shell-off-level-requires : goal.shell-off-level-requires
-shell-off-level-requires c = record { off = off (by_corner c.args.heights.now) (omega (arith, c.first-on-level.ensures.answer)) }
+pub shell_off_level-requires : goal.shell_off_level-requires
+shell_off_level-requires c = record { off = off (by_corner c.args.heights.now) (omega (arith, c.first_on_level.ensures.answer)) }
 
-pub returns-else-first-on-level-lt-CORNERS : goal.returns-else-first-on-level-lt-CORNERS
-returns-else-first-on-level-lt-CORNERS c = record {
+pub returns-else-first_on_level-lt-CORNERS : goal.returns-else-first_on_level-lt-CORNERS
+returns-else-first_on_level-lt-CORNERS c = record {
   answer = search rules;
-  closed = closed (by_corner c.args.heights.now) c.shell-off-level.result (off (by_corner c.args.heights.now) (omega (arith, c.first-on-level.ensures.answer))) c.shell-off-level.ensures.answer;
-  fits = c.shell-off-level.ensures.fits;
+  closed = closed (by_corner c.args.heights.now) c.shell_off_level.result (off (by_corner c.args.heights.now) (omega (arith, c.first_on_level.ensures.answer))) c.shell_off_level.ensures.answer;
+  fits = c.shell_off_level.ensures.fits;
 }

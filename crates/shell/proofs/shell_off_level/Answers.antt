@@ -8,22 +8,22 @@ use Rattle.shell.specs.Shell.{by_corner}
 use Rattle.shell.proofs.Corners.{no_shell}
 use Rattle.shell.proofs.shell_off_level.Goals as goal
 
-pub returns-then-is-on-one-side : goal.returns-then-is-on-one-side
-returns-then-is-on-one-side c = record {
-  answer = no_shell (by_corner c.args.heights.now) c.requires.off (c.is-on-one-side.ensures.answer c.if-is-on-one-side.true);
+pub returns-then-is_on_one_side : goal.returns-then-is_on_one_side
+returns-then-is_on_one_side c = record {
+  answer = no_shell (by_corner c.args.heights.now) c.requires.off (c.is_on_one_side.ensures.answer c.if-is_on_one_side.true);
   fits = record { triangles = omega arith; vertices = omega arith };
 }
 
-pub clip-triangle-count-requires : goal.clip-triangle-count-requires
-clip-triangle-count-requires c = subst Clippable (sym c.links-of-links.ensures) (voxel_clippable (by_corner c.args.heights.now) c.requires.off)
+pub clip-triangle_count-requires : goal.clip-triangle_count-requires
+clip-triangle_count-requires c = subst Clippable (sym c.links_of-links.ensures) (voxel_clippable (by_corner c.args.heights.now) c.requires.off)
 
 pub returns : goal.returns
 returns c = record {
   answer =
-      let m = subst (λ (xs : List ℕ). Means xs (voxel_segments (by_corner c.args.heights.now))) (sym c.links-of-links.ensures) (voxel_means (by_corner c.args.heights.now) c.requires.off) in
+      let m = subst (λ (xs : List ℕ). Means xs (voxel_segments (by_corner c.args.heights.now))) (sym c.links_of-links.ensures) (voxel_means (by_corner c.args.heights.now) c.requires.off) in
       λ i. (
-        c.clip-triangle-count.ensures.done (voxel_segments (by_corner c.args.heights.now)) m (voxels (by_corner c.args.heights.now) c.requires.off).0 i,
-        (c.vertices-on-vertex-count.ensures.done ∙ used_read c.links-of-links.result (voxel_segments (by_corner c.args.heights.now)) m) i,
+        c.clip-triangle_count.ensures.done (voxel_segments (by_corner c.args.heights.now)) m (voxels (by_corner c.args.heights.now) c.requires.off).0 i,
+        (c.vertices_on-vertex_count.ensures.done ∙ used_read c.links_of-links.result (voxel_segments (by_corner c.args.heights.now)) m) i,
       );
-  fits = record { triangles = c.clip-triangle-count.ensures.few; vertices = c.vertices-on-vertex-count.ensures.few };
+  fits = record { triangles = c.clip-triangle_count.ensures.few; vertices = c.vertices_on-vertex_count.ensures.few };
 }

@@ -8,19 +8,19 @@ use Rattle.block.specs.Refusals.{told, or_else}
 use Rattle.job.proofs.Headers.{spare_declined, kind_same, p_same, q_same, declined_by}
 use Rattle.job.proofs.Job.decode.Goals as goal
 
-pub returns-in-err-block : goal.returns-in-err-block
-returns-in-err-block c =
+pub returns-in_err-block : goal.returns-in_err-block
+returns-in_err-block c =
     let bytes = c.args.bytes.now in
     let long : 5 ≤ length bytes = search rules in
-    let e = err_from_is_err_and c.from-residual.result c.from-residual.ensures.1 in
-    let declined = declined_by bytes _ c.decode-header.result.spare long (search rules) c.in-err-block.ensures.answer c.decode-header.ensures.spare in
+    let e = err_from_is_err_and c.from_residual.result c.from_residual.ensures.1 in
+    let declined = declined_by bytes _ c.decode-header.result.spare long (search rules) c.in_err-block.ensures.answer c.decode-header.ensures.spare in
     rw (e.1, e.2) (record { answer = declined })
 
 pub returns-then-header-ne0 : goal.returns-then-header-ne0
 returns-then-header-ne0 c =
     let bytes = c.args.bytes.now in
     let long : 5 ≤ length bytes = search rules in
-    let declined = declined_by bytes None c.decode-header.result.spare long (search rules) c.in-ok-block.ensures.answer.0 c.decode-header.ensures.spare in
+    let declined = declined_by bytes None c.decode-header.result.spare long (search rules) c.in_ok-block.ensures.answer.0 c.decode-header.ensures.spare in
     record { answer = declined ∙ cond-false _ _ _ (ne_eqb _ 0 c.if-header-ne0.true) }
 
 pub returns : goal.returns
@@ -28,7 +28,7 @@ returns c =
     let bytes = c.args.bytes.now in
     let long : 5 ≤ length bytes = search rules in
     let h = c.decode-header.ensures in
-    let b = c.in-ok-block.ensures.answer in
+    let b = c.in_ok-block.ensures.answer in
     let declined = declined_by bytes None c.decode-header.result.spare long (search rules) b.0 h.spare in
     let p_kept = to_z-of_z w32 c.decode-header.result.p (search rules) in
     record {

@@ -12,14 +12,14 @@ returns g c =
     let b = g.S.Source.block c.args.source.now in
     let l = c.args.level in
     let at = c.args.at in
-    let low = c.in-ok-low.ensures.answer in
-    let high = c.in-ok-high.ensures.answer in
+    let low = c.in_ok-low.ensures.answer in
+    let high = c.in_ok-high.ensures.answer in
     let up = c.above.ensures.answer in
     let high_none = subst (λ p. corners_declined b l (four p) ≡ None) up high.0 in
-    let high_is = subst (λ p. HeightsAt b l (four p) c.in-ok-high.high) up high.1 in
-    let is = subst (λ n. is_voxel n at ≡ true) c.sizes.ensures.answer (sym c.if-not-is-voxel.ensures.answer) in
-    let lo = value_at c.in-ok-low.low (map (corner_height b l) (four at)) low.1 in
-    let hi = value_at c.in-ok-high.high (map (corner_height b l) (four (next Z at))) high_is in
+    let high_is = subst (λ p. HeightsAt b l (four p) c.in_ok-high.high) up high.1 in
+    let is = subst (λ n. is_voxel n at ≡ true) c.sizes.ensures.answer (sym c.if-not-is_voxel.ensures.answer) in
+    let lo = value_at c.in_ok-low.low (map (corner_height b l) (four at)) low.1 in
+    let hi = value_at c.in_ok-high.high (map (corner_height b l) (four (next Z at))) high_is in
     record {
       answer = (
         cond-true (is_voxel b.sizes at) _ _ is ∙ all_serve b l (four at) (four (next Z at)) low.0 high_none,

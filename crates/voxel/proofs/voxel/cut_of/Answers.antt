@@ -9,7 +9,7 @@ use Rattle.voxel.proofs.voxel.cut_of.Goals as goal
 pub unreachable-requires : goal.unreachable-requires
 unreachable-requires c =
     let s = c.args.shape.now in
-    both_ways _ (face_off s.at (by_corner s.heights) (off_from s.heights s.off) c.args.side c.face-of.result c.face-of.ensures.answer) c.in-default.ensures.follows
+    both_ways _ (face_off s.at (by_corner s.heights) (off_from s.heights s.off) c.args.side c.face_of.result c.face_of.ensures.answer) c.in_default.ensures.follows
 
 pub returns-in-Some-segment : goal.returns-in-Some-segment
 returns-in-Some-segment c =
@@ -18,7 +18,7 @@ returns-in-Some-segment c =
     let within : k < 6 = omega arith in
     let found = sym c.segment.ensures.answer ∙ c.in-Some-segment.is in
     let cut =
-    cut_is s.at (by_corner s.heights) (off_from s.heights s.off) k c.face-of.result c.face-of.ensures.answer
+    cut_is s.at (by_corner s.heights) (off_from s.heights s.off) k c.face_of.result c.face_of.ensures.answer
     c.in-Some.cut c.args.n (Some (c.in-Some-segment.p, c.in-Some-segment.q)) within c.in-Some.ensures.answer found in
     record {
       answer =
@@ -34,6 +34,6 @@ returns-in-None c =
     let found = sym c.segment.ensures.answer ∙ c.in-None.is in
     record {
       answer =
-          cut_is s.at (by_corner s.heights) (off_from s.heights s.off) k c.face-of.result c.face-of.ensures.answer
+          cut_is s.at (by_corner s.heights) (off_from s.heights s.off) k c.face_of.result c.face_of.ensures.answer
           c.in-Some.cut c.args.n None within c.in-Some.ensures.answer found;
     }

@@ -18,9 +18,9 @@ loop-i-preserved c =
     let none : LocalTriangle = record { apex = 0; low = 0; high = 0 } in
     let long = c.loop-i.invariant.0 in (
       simp length-set long,
-      ap (map numbers) (take_more_set xs i c.number-triangle.result (omega (arith, c.requires.few, c.loop-i-test.true)))
-          ∙ map_push numbers (take i xs) c.number-triangle.result
-          ∙ ap₂ (λ a x. a ++ x ∷ []) c.loop-i.invariant.1 c.number-triangle.ensures.answer
+      ap (map numbers) (take_more_set xs i c.number_triangle.result (omega (arith, c.requires.few, c.loop-i-test.true)))
+          ∙ map_push numbers (take i xs) c.number_triangle.result
+          ∙ ap₂ (λ a x. a ++ x ∷ []) c.loop-i.invariant.1 c.number_triangle.ensures.answer
           ∙ sym (ap (map (numbered vs)) (map_more named ts i none c.loop-i-test.true) ∙ map_push (numbered vs) (map named (take i ts)) (named (get_or ts i none))),
     )
 

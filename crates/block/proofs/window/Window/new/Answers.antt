@@ -4,10 +4,10 @@ use Rattle.block.specs.Window.{shown, plus_capped, window_declined}
 use Rattle.block.proofs.Windows.{three_from, too_large, let_through, uncapped}
 use Rattle.block.proofs.window.Window.new.Goals as goal
 
-pub returns-in-default : goal.returns-in-default
-returns-in-default g c =
+pub returns-in_default : goal.returns-in_default
+returns-in_default g c =
     let below = g.S.Source.block c.args.below in
-    let declined = too_large below.sizes c.args.origin c.args.sizes (g.S.Source.formed c.args.below).sizes_allowed c.in-default.ensures.answer in
+    let declined = too_large below.sizes c.args.origin c.args.sizes (g.S.Source.formed c.args.below).sizes_allowed c.in_default.ensures.answer in
     record { answer = (declined, refl) }
 
 pub returns : goal.returns

@@ -1,18 +1,18 @@
 use Rattle.cell.proofs.Heights.{level_limits, times_fits, height_fits, answer_is, answer_small}
 use Rattle.cell.proofs.level.Level.height_within.Goals as goal
 
-pub overflow-mul-result : goal.overflow-mul-result
-overflow-mul-result c =
+pub overflow_mul-result : goal.overflow_mul-result
+overflow_mul-result c =
     let level = level_limits c.args.self.now.p c.args.self.now.q c.args.self.now.allowed in
     times_fits c.args.self.now.p c.args.self.now.q c.args.sample level.0 level.1 c.requires.within
 
-pub overflow-sub-result : goal.overflow-sub-result
-overflow-sub-result c =
+pub overflow_sub-result : goal.overflow_sub-result
+overflow_sub-result c =
     let level = level_limits c.args.self.now.p c.args.self.now.q c.args.self.now.allowed in
     height_fits c.args.self.now.p c.args.self.now.q c.args.sample level.0 level.1 c.requires.within
 
-pub invariant-of-result : goal.invariant-of-result
-invariant-of-result c =
+pub invariant_of-result : goal.invariant_of-result
+invariant_of-result c =
     let level = level_limits c.args.self.now.p c.args.self.now.q c.args.self.now.allowed in
     (answer_small c.args.self.now.p c.args.self.now.q c.args.sample level.0 level.1 c.requires.within, tt)
 

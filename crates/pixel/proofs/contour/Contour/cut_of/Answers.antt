@@ -10,9 +10,9 @@ returns-then-n-ne0 c = record { answer = no_later c.args.self.now c.args.side c.
 pub returns-in-Some : goal.returns-in-Some
 returns-in-Some c =
     let k = c.args.self.now in
-    let first = first_cut k c.args.side c.in-Some.edge (sym c.is-crossed.ensures.answer ∙ c.if-not-is-crossed.false) (sym c.side.ensures.answer ∙ c.in-Some.is) in
-    record { answer = ap (λ p. Some (p ∷ [])) c.place-on.ensures.answer ∙ first ∙ ap (cut_at (contour_borders k) c.args.side) (sym c.if-n-ne0.false) }
+    let first = first_cut k c.args.side c.in-Some.edge (sym c.is_crossed.ensures.answer ∙ c.if-not-is_crossed.false) (sym c.side.ensures.answer ∙ c.in-Some.is) in
+    record { answer = ap (λ p. Some (p ∷ [])) c.place_on.ensures.answer ∙ first ∙ ap (cut_at (contour_borders k) c.args.side) (sym c.if-n-ne0.false) }
 
-pub returns-then-not-is-crossed : goal.returns-then-not-is-crossed
-returns-then-not-is-crossed c =
-    record { answer = no_cut c.args.self.now c.args.side c.args.n (sym c.is-crossed.ensures.answer ∙ c.if-not-is-crossed.true) }
+pub returns-then-not-is_crossed : goal.returns-then-not-is_crossed
+returns-then-not-is_crossed c =
+    record { answer = no_cut c.args.self.now c.args.side c.args.n (sym c.is_crossed.ensures.answer ∙ c.if-not-is_crossed.true) }

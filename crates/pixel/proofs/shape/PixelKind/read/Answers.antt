@@ -13,8 +13,8 @@ returns g c =
     let b = g.S.Source.block c.args.source.now in
     let l = c.args.level in
     let at = c.args.at in
-    let k = c.in-ok-contour.contour in
-    let read = c.in-ok-contour.ensures.answer in
+    let k = c.in_ok-contour.contour in
+    let read = c.in_ok-contour.ensures.answer in
     let r = readable pixel b l at read.0 in
     record {
       answer = (

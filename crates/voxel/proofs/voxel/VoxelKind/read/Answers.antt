@@ -9,18 +9,18 @@ use Rattle.voxel.proofs.voxel.VoxelKind.read.Goals as goal
 pub unreachable-requires : goal.unreachable-requires
 unreachable-requires g c =
     let b = g.S.Source.block c.args.source.now in
-    let read = c.in-ok-heights.ensures.answer in
-    let q = shell_told b c.args.level c.args.at c.in-ok-heights.heights read.1 read.0 None c.in-default.ensures.answer in
+    let read = c.in_ok-heights.ensures.answer in
+    let q = shell_told b c.args.level c.args.at c.in_ok-heights.heights read.1 read.0 None c.in_default.ensures.answer in
     let z : ◌≡◌ {A = ℕ} 0 1 = cc in
     omega arith
 
-pub shape-of-requires : goal.shape-of-requires
-shape-of-requires g c =
+pub shape_of-requires : goal.shape_of-requires
+shape_of-requires g c =
     let b = g.S.Source.block c.args.source.now in
-    let read = c.in-ok-heights.ensures.answer in
+    let read = c.in_ok-heights.ensures.answer in
     record {
-      near = near b c.args.level c.args.at c.in-ok-heights.heights read.1 read.0 (g.S.Source.formed c.args.source.now).sizes_allowed;
-      off = read_off b c.args.level c.args.at c.in-ok-heights.heights read.1 read.0;
+      near = near b c.args.level c.args.at c.in_ok-heights.heights read.1 read.0 (g.S.Source.formed c.args.source.now).sizes_allowed;
+      off = read_off b c.args.level c.args.at c.in_ok-heights.heights read.1 read.0;
       fits = c.in-Some.ensures.fits;
     }
 
@@ -29,9 +29,9 @@ returns g c =
     let b = g.S.Source.block c.args.source.now in
     let l = c.args.level in
     let at = c.args.at in
-    let hs = c.in-ok-heights.heights in
-    let read = c.in-ok-heights.ensures.answer in
-    let shape = c.shape-of.ensures in
+    let hs = c.in_ok-heights.heights in
+    let read = c.in_ok-heights.ensures.answer in
+    let shape = c.shape_of.ensures in
     let shell = c.in-Some.shell in
     let q = shell_told b l at hs read.1 read.0 (Some (told shell)) c.in-Some.ensures.answer in
     let t : told shell ≡ shell_of (by_corner hs) = cc in
