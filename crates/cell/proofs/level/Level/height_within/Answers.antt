@@ -14,7 +14,7 @@ overflow_sub-result c =
 pub invariant_of-result : goal.invariant_of-result
 invariant_of-result c =
     let level = level_limits c.args.self.now.p c.args.self.now.q c.args.self.now.allowed in
-    (answer_small c.args.self.now.p c.args.self.now.q c.args.sample level.0 level.1 c.requires.within, tt)
+    record { small = answer_small c.args.self.now.p c.args.self.now.q c.args.sample level.0 level.1 c.requires.within }
 
 pub returns : goal.returns
 returns c =
