@@ -10,7 +10,7 @@ use cell::vertex::Vertex;
 use job::Job;
 use kind::kind::{Kind, Shape};
 use pixel::pixels::Pixels;
-use pixel::shape::{Pixel, PixelShape, Shape as _};
+use pixel::shape::{Pixel, PixelShape};
 use pixel::survey::Survey;
 use std::io;
 use std::io::Read;

@@ -11,7 +11,7 @@ use kind::kind::{Kind, Shape};
 use std::io;
 use std::time::Instant;
 use voxel::held::VoxelShape;
-use voxel::voxel::{Shape as _, Voxel};
+use voxel::voxel::Voxel;
 
 const SIDE: u32 = 32;
 

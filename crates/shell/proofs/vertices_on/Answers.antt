@@ -10,17 +10,17 @@ use Rattle.shell.proofs.vertices_on.Goals.{then-links-v-gt0, else-links-v-gt0}
 pub loop-v-preserved : goal.loop-v-preserved
 loop-v-preserved c = elim c.if-links-v-gt0.branch [
   | then-links-v-gt0 w ↦ (
-    ap₂ (λ n out. take n out) w.n_is w.out-is
+    ap₂ (λ n out. take n out) w.n-is w.out-is
         ∙ gathered (λ v. ltb 0 (ones (get_or c.args.links.now v 0))) c.loop-v.out c.loop-v.n c.loop-v.v c.loop-v.invariant.0 c.loop-v-test.true
         (omega (arith, c.loop-v.invariant.1, c.loop-v.invariant.2)) (lt-ltb 0 (ones (get_or c.args.links.now c.loop-v.v 0)) w.if-links-v-gt0.true),
-    omega (arith, w.n_is, c.loop-v.invariant.1),
+    omega (arith, w.n-is, c.loop-v.invariant.1),
     c.if-links-v-gt0.array_long,
   )
   | else-links-v-gt0 w ↦ (
-    ap₂ (λ n out. take n out) w.n_is w.out-is
+    ap₂ (λ n out. take n out) w.n-is w.out-is
         ∙ passed (λ v. ltb 0 (ones (get_or c.args.links.now v 0))) c.loop-v.out c.loop-v.n c.loop-v.v c.loop-v.invariant.0 c.loop-v-test.true
         (le-ltb 0 (ones (get_or c.args.links.now c.loop-v.v 0)) w.if-links-v-gt0.false),
-    omega (arith, w.n_is, c.loop-v.invariant.1),
+    omega (arith, w.n-is, c.loop-v.invariant.1),
     c.if-links-v-gt0.array_long,
   )
 ]

@@ -9,4 +9,4 @@ invariant_of-result g c =
     let at = c.args.at in
     let is = subst (λ n. is_pixel n at ≡ true) c.sizes.ensures.answer (sym c.if-not-is_pixel.ensures.answer) in
     let fits = next_fits (g.S.Source.block source).sizes at (g.S.Source.formed source).sizes_allowed is in
-    (fits.0, (fits.1, tt))
+    record { x_low = fits.0; y_low = fits.1 }
