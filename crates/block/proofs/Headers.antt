@@ -1,8 +1,8 @@
 -- A packed block is read from its first five bytes and from the rest.
-use Rattle.std.proofs.Common.{◌≡◌, ℕ, ◌+◌, ◌-◌, ◌*◌, ◌%◌, ◌<◌, ◌≤◌, List, length, take, drop, sym, ap, ◌∙◌, ap₂, arith}
+use Rattle.std.proofs.Common.{◌≡◌, ℕ, ◌+◌, ◌-◌, ◌*◌, ◌%◌, ◌<◌, ◌≤◌, List, length, take, drop, sym, ap, ◌∙◌, arith}
 use Rattle.std.proofs.lemmas.List.{take_rest}
 use Rattle.std.proofs.lemmas.Bool.{le-ltb, cond-false}
-use Rattle.block.specs.Bits.{field, five}
+use Rattle.block.specs.Bits.{five}
 use Rattle.block.specs.Lattice.{count}
 use Rattle.block.specs.Packed.{packed_block, block_of_bytes, header_width, header_sizes, header_spare, samples_declined, packed_declined}
 use Rattle.block.proofs.Fields.{first_five_field}

@@ -1,5 +1,5 @@
 -- Which windows are let through, and that no point of such a window has a coordinate too large.
-use Rattle.std.proofs.Common.{◌≡◌, ℕ, ◌+◌, ◌<◌, ◌≤◌, min, Bool, true, false, cond, ◌&&◌, leb, ℤ, Some, None, Ok, Err, Result, sym, refl, ap, ◌∙◌, ⊎_elim, arith}
+use Rattle.std.proofs.Common.{◌≡◌, ℕ, ◌+◌, ◌<◌, ◌≤◌, min, Bool, true, false, cond, ◌&&◌, leb, Some, None, Err, sym, ap, ◌∙◌, ⊎_elim, arith}
 use Rattle.std.proofs.lemmas.Bool.{and_parts, and_from, leb-true, le-leb, cond-true, cond-false, cases_Bool, both_ways}
 use Rattle.block.specs.Block.{Block}
 use Rattle.block.specs.Faults.{fresh}
@@ -7,7 +7,6 @@ use Rattle.block.specs.Lattice.{inside, allowed, all_allowed}
 use Rattle.block.specs.Refusals.{plain}
 use Rattle.block.specs.Window.{shown, plus, plus_capped, passed_up, lies_within, window_declined}
 use Rattle.block.specs.declared.fault.Cause.TheVariants.{Outside}
-use Rattle.block.specs.declared.fault.Fault.{Fault}
 use Rattle.block.specs.declared.lattice.Point.{Point}
 use Rattle.block.specs.declared.lattice.Sizes.{Sizes}
 use Rattle.block.proofs.Storage.{inside_parts}

@@ -1,5 +1,5 @@
 -- The block that a packed block's bytes tell, and which bytes are declined.
-use Rattle.std.specs.Prelude.{ℕ, ◌+◌, ◌-◌, ◌*◌, ◌/◌, ◌%◌, Bool, cond, ◌&&◌, List, length, drop, pos, Some, None, Ok, Err, Option, ◌==◌, nat_lt}
+use Rattle.std.specs.Prelude.{ℕ, ◌+◌, ◌-◌, ◌*◌, ◌/◌, ◌%◌, cond, ◌&&◌, List, length, drop, pos, Some, None, Ok, Err, Option, ◌==◌, nat_lt}
 use Rattle.block.specs.Bits.{field}
 use Rattle.block.specs.Block.{Block}
 use Rattle.block.specs.Extent.{sizes_of}

@@ -1,5 +1,5 @@
 -- Vertices on edges and in faces, and the text of a vertex.
-use Rattle.std.specs.Prelude.{ℕ, cond, List, [], ◌∷◌, ◌++◌, Some, None, codes, decimal, ◌==◌}
+use Rattle.std.specs.Prelude.{ℕ, cond, List, ◌++◌, Some, None, codes, decimal, ◌==◌}
 use Rattle.block.specs.declared.lattice.Point.{Point}
 use Rattle.cell.specs.Crossing.{offset}
 use Rattle.cell.specs.declared.crossing.Offset.{Offset}

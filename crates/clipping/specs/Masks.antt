@@ -1,5 +1,5 @@
 -- A set of segments as a mask for each local vertex: bit u of mask v is set where the segment between u and v is in the set.
-use Rattle.std.specs.Prelude.{◌≡◌, ℕ, ◌/◌, ◌%◌, ◌^◌, ◌<◌, ◌≤◌, cond, ltb, List, [], ◌∷◌, length, set, replicate, filter, bit_xor, count_ones, nat_eq, nat_lt, slice_index, slice_set}
+use Rattle.std.specs.Prelude.{◌≡◌, ℕ, ◌/◌, ◌%◌, ◌^◌, ◌<◌, ◌≤◌, cond, ltb, List, [], ◌∷◌, length, replicate, filter, bit_xor, count_ones, nat_eq, nat_lt, slice_index, slice_set}
 use Rattle.clipping.specs.Faces.{Segment, local_vertices, local_order}
 use Rattle.clipping.specs.Clip.{Triangle, degree, lowest, triangles}
 use Rattle.clipping.specs.Laws.{times, Tame, most_segments}

@@ -1,7 +1,6 @@
 -- What the bytes of a job say, and which bytes are declined.
 use Rattle.std.specs.Prelude.{◌≡◌, ℕ, suc, ◌+◌, ◌-◌, ◌^◌, cond, List, length, drop, ℤ, pos, negsuc, Some, None, Option, ◌==◌, nat_lt}
 use Rattle.block.specs.Bits.{field}
-use Rattle.block.specs.Block.{Block}
 use Rattle.block.specs.Packed.{block_of_bytes, packed_told, packed_declined}
 use Rattle.block.specs.Refusals.{Told, plain, or_else}
 use Rattle.job.specs.declared.CellKind.{CellKind}

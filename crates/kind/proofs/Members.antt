@@ -4,7 +4,6 @@ use Rattle.std.specs.List.{ContainsAt as Has}
 use Rattle.std.proofs.lemmas.List.{length-map}
 use Rattle.std.proofs.lemmas.List.Sums.{length-filter, count_by-le-length}
 use Rattle.std.proofs.lemmas.Bool.{false≢true}
-use Rattle.std.proofs.ByRecursion.{has_append_left, has_append_right}
 use Rattle.kind.specs.Meaning.{Distinct}
 
 -- The four rules of `Has`: what is below uses no index any more.

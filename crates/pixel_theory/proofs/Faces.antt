@@ -1,14 +1,11 @@
 -- How often the points of a face are named by its segments: a case for each of the signs, computed.
-use Rattle.std.proofs.Common.{◌≡◌, ℕ, ◌%◌, Bool, true, false, cond, ◌&&◌, ◌||◌, eqb, ◌⊎◌, List, [], ◌∷◌, ℤ, count_by, sym, refl, ap, ◌∙◌, inl, inr, ⊎_elim, arith}
-use Rattle.std.proofs.lemmas.Bool.{and_parts, or_parts, eqb-true, true≢false}
-use Rattle.cell.specs.Crossing.{opposite}
-use Rattle.cell.specs.Face.{FaceSegment, join, crossings, centred, face_segments, meets_level, Δ}
-use Rattle.cell.specs.Interpolant.{same, one_if, degree}
-use Rattle.cell.specs.Level.{Sign, minus, none, plus, sign, is_none}
+use Rattle.std.proofs.Common.{◌≡◌, Bool, true, false, ◌||◌, eqb, ℤ, count_by, refl}
+use Rattle.std.proofs.lemmas.Bool.{or_parts, eqb-true}
+use Rattle.cell.specs.Face.{FaceSegment, join, crossings, face_segments, meets_level, Δ}
+use Rattle.cell.specs.Interpolant.{same, degree}
+use Rattle.cell.specs.Level.{Sign, sign, is_none}
 use Rattle.cell.specs.declared.face.FacePoint.{FacePoint}
-use Rattle.cell.specs.declared.face.FacePoint.TheVariants.{P0, P1, P2, P3, C}
 use Rattle.cell.proofs.Joints.{each_point, each_sign, either_side, at_point, at_sign, at_side}
-use Rattle.pixel_theory.specs.Kind.{present}
 
 -- a segment names a point
 abbrev pub touches : FacePoint → FaceSegment → Bool

@@ -1,14 +1,13 @@
 -- Pixels keep every law of kinds.
-use Rattle.std.proofs.Common.{◌≡◌, ℕ, suc, ◌+◌, ◌%◌, ◌<◌, Bool, true, false, cond, ◌&&◌, ◌||◌, eqb, ◌⊎◌, ◌↔◌, List, [], ◌∷◌, map, length, ℤ, Some, None, Decides, count_by, filter, unwrap_or, sym, refl, ap, ◌∙◌, subst, ap₂, inl, inr, ⊎_elim, arith}
+use Rattle.std.proofs.Common.{◌≡◌, ℕ, ◌+◌, ◌<◌, Bool, true, false, cond, ◌&&◌, ◌||◌, ◌⊎◌, ◌↔◌, List, [], ◌∷◌, map, ℤ, Some, None, Decides, count_by, filter, unwrap_or, sym, refl, ap, ◌∙◌, subst, ap₂, inl, inr, ⊎_elim, arith}
 use Rattle.std.specs.List.{ContainsAt as Has}
-use Rattle.std.proofs.lemmas.Bool.{cases_Bool, false≢true, and_parts, and_from, cond-true, cond-false}
+use Rattle.std.proofs.lemmas.Bool.{false≢true, and_parts, and_from}
 use Rattle.std.proofs.lemmas.Bool.Decides.{Decides-by_or}
 use Rattle.block.specs.Block.{Block}
 use Rattle.block.specs.declared.lattice.Point.{Point}
-use Rattle.block.specs.declared.lattice.Sizes.{Sizes}
 use Rattle.cell.specs.Corner.{corner_height}
 use Rattle.cell.specs.Crossing.{opposite, along_edge}
-use Rattle.cell.specs.Face.{FaceSegment, face_segments, centre_offsets, has_centre, meets_level, Δ}
+use Rattle.cell.specs.Face.{FaceSegment, face_segments, centre_offsets, Δ}
 use Rattle.cell.specs.Interpolant.{same, one_if, degree}
 use Rattle.cell.specs.Level.{Sign, sign}
 use Rattle.cell.specs.Vertex.{no_offset, on_edge, in_face}
@@ -21,11 +20,11 @@ use Rattle.cell.specs.declared.vertex.Form.TheVariants.{Edge, Face}
 use Rattle.cell.specs.declared.vertex.Place.{Place}
 use Rattle.cell.specs.declared.vertex.Side.{Side}
 use Rattle.cell.specs.declared.vertex.Vertex.{Vertex}
-use Rattle.kind.specs.Meaning.{Laws, Piece, Joint, Readable, Odd, Distinct, same_place, names, on, SameJoint, IsJoint, CutOf, CutOfCell, places_of}
+use Rattle.kind.specs.Meaning.{Laws, Piece, Joint, Readable, Odd, Distinct, names, on, SameJoint, IsJoint, CutOf, CutOfCell, places_of}
 use Rattle.kind.proofs.Counts.{counted, has_counted, count_same, count_map}
 use Rattle.kind.proofs.Members.{has_none, has_here, has_there, has_cases, has_map, map_has, has_kept, kept_has, distinct_map, distinct_from_map, distinct_kept}
-use Rattle.kind.proofs.Places.{same_place_decides, names_decides}
-use Rattle.pixel_theory.specs.Kind.{pixel, face_points, present, pixel_sides, upper, edge_place, edge_cuts, segment_places, place_of}
+use Rattle.kind.proofs.Places.{names_decides}
+use Rattle.pixel_theory.specs.Kind.{pixel, face_points, present, pixel_sides, upper, edge_place, segment_places, place_of}
 use Rattle.pixel_theory.specs.Pixel.{at_pixel, vertex_of, next_x, next_y}
 use Rattle.pixel_theory.proofs.Faces.{touches, count_touches}
 use Rattle.pixel_theory.proofs.Points.{same_points, apart, reads_off}

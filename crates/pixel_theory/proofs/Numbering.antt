@@ -1,21 +1,20 @@
 -- How a face is cut tells a pixel's vertices and the numbers in its pieces.
-use Rattle.std.proofs.Common.{◌≡◌, ℕ, suc, Bool, true, false, cond, ◌&&◌, ◌||◌, eqb, List, [], ◌∷◌, map, ℤ, filter, sym, refl, ap, ◌∙◌, subst, ap₂}
-use Rattle.std.proofs.lemmas.Bool.{and_parts, eqb-true, false≢true, or_parts}
+use Rattle.std.proofs.Common.{◌≡◌, ℕ, suc, Bool, true, false, cond, ◌&&◌, List, [], ◌∷◌, map, ℤ, filter, sym, refl, ap, ◌∙◌, subst, ap₂}
+use Rattle.std.proofs.lemmas.Bool.{and_parts, false≢true}
 use Rattle.block.specs.Block.{Block}
 use Rattle.block.specs.declared.lattice.Point.{Point}
 use Rattle.cell.specs.Corner.{corner_height}
 use Rattle.cell.specs.Crossing.{opposite}
 use Rattle.cell.specs.Cuts.{segments_in}
 use Rattle.cell.specs.Face.{FaceSegment, join, crossings, centred, face_segments, meets_level, Δ}
-use Rattle.cell.specs.Interpolant.{number, same}
-use Rattle.cell.specs.Level.{Sign, sign, is_none}
+use Rattle.cell.specs.Interpolant.{same}
+use Rattle.cell.specs.Level.{Sign, sign}
 use Rattle.cell.specs.declared.face.Cut.{Cut}
 use Rattle.cell.specs.declared.face.Cut.TheVariants.{Uncut, Single, Rising, Falling, Star}
 use Rattle.cell.specs.declared.face.FacePoint.{FacePoint}
 use Rattle.cell.specs.declared.face.FacePoint.TheVariants.{P0, P1, P2, P3, C}
 use Rattle.cell.specs.declared.level.Level.{Level}
-use Rattle.cell.specs.declared.vertex.Vertex.{Vertex}
-use Rattle.kind.specs.Meaning.{Readable, Piece, same_place}
+use Rattle.kind.specs.Meaning.{Readable, same_place}
 use Rattle.kind.specs.Shapes.{local_pieces, number as number_among}
 use Rattle.pixel_theory.specs.Kind.{pixel, face_points, present, segment_places, place_of}
 use Rattle.pixel_theory.specs.Numbers.{points_in, numbers_in}

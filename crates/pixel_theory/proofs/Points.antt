@@ -1,5 +1,5 @@
 -- The places of a pixel's points, told apart, and the heights of a pixel that can be read.
-use Rattle.std.proofs.Common.{◌≡◌, ℕ, ◌+◌, Bool, true, false, ◌&&◌, eqb, sym, refl, ap, ◌∙◌, arith}
+use Rattle.std.proofs.Common.{◌≡◌, ℕ, ◌+◌, true, false, ◌&&◌, eqb, sym, refl, ap, ◌∙◌, arith}
 use Rattle.std.proofs.lemmas.Bool.{eq-eqb, ne_eqb, or_from}
 use Rattle.block.specs.Block.{Block}
 use Rattle.block.specs.declared.lattice.Point.{Point}
@@ -8,7 +8,7 @@ use Rattle.cell.specs.Interpolant.{same}
 use Rattle.cell.specs.declared.face.FacePoint.{FacePoint}
 use Rattle.cell.specs.declared.face.FacePoint.TheVariants.{P0, P1, P2, P3, C}
 use Rattle.cell.specs.declared.level.Level.{Level}
-use Rattle.kind.specs.Meaning.{same_place, same_point, Readable}
+use Rattle.kind.specs.Meaning.{same_place, Readable}
 use Rattle.kind.proofs.Places.{same_point_self, same_place_decides}
 use Rattle.kind.proofs.Reading.{all_off}
 use Rattle.pixel_theory.specs.Kind.{pixel, place_of}

@@ -9,7 +9,6 @@ use Rattle.cell.specs.Level.{sign}
 use Rattle.cell.specs.declared.face.FacePoint.{FacePoint}
 use Rattle.cell.specs.declared.face.FacePoint.TheVariants.{P0, P1, P2, P3, C}
 use Rattle.cell.specs.declared.level.Level.{Level}
-use Rattle.cell.specs.declared.vertex.Axis.{Axis}
 use Rattle.cell.specs.declared.vertex.Axis.TheVariants.{X, Y, Z}
 use Rattle.cell.specs.declared.vertex.Form.TheVariants.{Edge, Face}
 use Rattle.cell.specs.declared.vertex.Place.{Place}

@@ -1,5 +1,5 @@
 -- What takes and withdrawals do to the lists, and that they answer it.
-use Rattle.std.proofs.Common.{◌≡◌, suc, ◌+◌, ◌-◌, Bool, true, not, List, [], ◌∷◌, ◌++◌, map, length, take as list_take, Some, Ok, filter, sym, refl, ap, ◌∙◌, subst, ⊎_elim, arith}
+use Rattle.std.proofs.Common.{◌≡◌, suc, ◌-◌, Bool, true, not, List, [], ◌∷◌, ◌++◌, map, length, take as list_take, Some, Ok, filter, sym, refl, ap, ◌∙◌, subst, ⊎_elim, arith}
 use Rattle.std.specs.List.{ContainsAt as Has, slice_get}
 use Rattle.std.proofs.lemmas.List.{length-append, length_push, map-append, map-id}
 use Rattle.std.proofs.lemmas.Option.{slice_get_read}

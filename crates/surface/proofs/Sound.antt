@@ -1,5 +1,5 @@
 -- What every state keeps to, and where its cells and vertices came from; an accepted take and a withdrawal keep it.
-use Rattle.std.proofs.Common.{◌≡◌, ◌+◌, Bool, true, not, ◌⊎◌, List, [], ◌∷◌, ◌++◌, filter, sym, refl, subst, inl, inr, ⊎_elim, arith}
+use Rattle.std.proofs.Common.{◌≡◌, Bool, true, not, ◌⊎◌, List, [], ◌∷◌, ◌++◌, filter, sym, refl, subst, inl, inr, ⊎_elim, arith}
 use Rattle.std.specs.List.{ContainsAt as Has}
 use Rattle.std.proofs.ByRecursion.{has_append_left, has_append_right, has_push_cases}
 use Rattle.std.proofs.lemmas.List.{length-append, length_push, flat_map_more}

@@ -1,5 +1,5 @@
 -- A kind that strings the cells of each row on a thread, whatever their samples: it shows that the interface of kinds can be met from outside.
-use Rattle.std.specs.Prelude.{◌+◌, Bool, true, false, ◌&&◌, List, [], ◌∷◌, map, Some, nat_lt}
+use Rattle.std.specs.Prelude.{◌+◌, Bool, ◌&&◌, [], ◌∷◌, Some, nat_lt}
 use Rattle.block.specs.declared.lattice.Point.{Point}
 use Rattle.block.specs.declared.lattice.Sizes.{Sizes}
 use Rattle.cell.specs.Vertex.{in_face, no_offset}

@@ -1,18 +1,16 @@
 -- The thread keeps the laws of kinds.
-use Rattle.std.specs.Prelude.{◌≡◌, ℕ, suc, ◌+◌, ◌%◌, Bool, true, false, cond, ◌&&◌, ◌⊎◌, ◌↔◌, List, [], ◌∷◌, map, count_by, ◌≢◌, refl}
+use Rattle.std.specs.Prelude.{◌≡◌, ℕ, true, cond, ◌&&◌, ◌⊎◌, ◌↔◌, [], ◌∷◌, count_by, ◌≢◌, refl}
 use Rattle.std.proofs.Common.{sym, ap, subst, ◌∙◌, inl, inr, ⊎_elim, arith}
-use Rattle.std.specs.Option.{unwrap_or}
 use Rattle.std.specs.List.{ContainsAt as Has}
-use Rattle.std.proofs.lemmas.Bool.{cases_Bool, false≢true, true≢false, and_parts}
+use Rattle.std.proofs.lemmas.Bool.{and_parts}
 use Rattle.block.specs.Block.{Block}
 use Rattle.block.specs.declared.lattice.Point.{Point}
 use Rattle.cell.specs.declared.level.Level.{Level}
-use Rattle.cell.specs.declared.vertex.Axis.TheVariants.{X}
 use Rattle.cell.specs.declared.vertex.Place.{Place}
 use Rattle.cell.specs.declared.vertex.Side.{Side}
 use Rattle.cell.specs.declared.vertex.Vertex.{Vertex}
-use Rattle.kind.specs.Meaning.{Laws, Piece, Joint, Odd, Distinct, IsJoint, SameJoint, CutOf, CutOfCell, names, on, places_of}
-use Rattle.kind.proofs.Counts.{counted, has_counted, count_cons}
+use Rattle.kind.specs.Meaning.{Laws, Piece, Joint, Odd, IsJoint, SameJoint, CutOf, CutOfCell, names, on}
+use Rattle.kind.proofs.Counts.{counted, count_cons}
 use Rattle.kind.proofs.Members.{has_none, has_here, has_there, has_cases}
 use Rattle.kind.proofs.Places.{names_decides}
 use Rattle.thread.specs.Thread.{thread, knot, knot_place, end, after}

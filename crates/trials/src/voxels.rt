@@ -3,7 +3,7 @@ use block::raster::Raster;
 use block::refusal::Refusal;
 use cell::level::Level;
 use kind::kind::{Kind, Shape};
-use voxel::voxel::{Shape as _, Voxel};
+use voxel::voxel::Voxel;
 
 // The vertices and triangles of the voxel at a point of a block of 2, 2, 2 at level 1/2, or the number of its refusal.
 fn counts(samples: &[i16; 8], at: Point) -> (usize, usize, u8) {

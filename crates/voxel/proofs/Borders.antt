@@ -1,5 +1,5 @@
 -- The cut at a place of the face at a place.
-use Rattle.std.proofs.Common.{◌≡◌, ℕ, zero, suc, ◌<◌, true, false, cond, List, [], ◌∷◌, map, ℤ, Some, None, Option, sym, refl, ap, ◌∙◌, arith, lit<}
+use Rattle.std.proofs.Common.{◌≡◌, ℕ, zero, suc, ◌<◌, false, List, [], ◌∷◌, map, ℤ, Some, None, Option, sym, refl, ap, ◌∙◌, arith, lit<}
 use Rattle.std.specs.Option.{option_map}
 use Rattle.std.specs.List.{slice_get}
 use Rattle.std.proofs.lemmas.Bool.{or_from, cond-false}
@@ -10,10 +10,9 @@ use Rattle.cell.specs.Face.{FaceSegment, face_segments, face_rule, meets_level}
 use Rattle.cell.specs.Level.{on_level}
 use Rattle.cell.specs.declared.face.Cut.{Cut}
 use Rattle.cell.specs.declared.face.Face.{Face}
-use Rattle.clipping.specs.Faces.{Off, Placed, faces, on_face}
-use Rattle.kind.specs.Meaning.{Joint}
+use Rattle.clipping.specs.Faces.{Off, faces, on_face}
 use Rattle.kind.specs.Shapes.{cut_at}
-use Rattle.voxel_theory.specs.Voxel.{sides, place_of}
+use Rattle.voxel_theory.specs.Voxel.{sides}
 use Rattle.voxel.specs.Local.{face_at, face_joint, face_cuts, paired, FaceOn}
 
 nth_map : {X Y : Type 0} (f : X → Y) (xs : List X) (n : ℕ) → slice_get (map f xs) n ≡ option_map f (slice_get xs n)

@@ -1,5 +1,5 @@
 -- What a shape holds is what its voxel means.
-use Rattle.std.proofs.Common.{◌≡◌, ℕ, zero, suc, ◌+◌, ◌<◌, Bool, true, false, cond, ◌&&◌, ltb, leb, List, [], ◌∷◌, map, length, get_or, ℤ, pos, Some, None, filter, Option, sym, refl, ap, ◌∙◌, subst, ap₂, arith, lit<}
+use Rattle.std.proofs.Common.{◌≡◌, ℕ, zero, suc, ◌+◌, ◌<◌, Bool, true, cond, ◌&&◌, ltb, leb, List, [], ◌∷◌, map, length, get_or, ℤ, pos, Some, None, filter, Option, sym, refl, ap, ◌∙◌, ap₂, arith, lit<}
 use Rattle.std.specs.List.{ContainsAt as Has, AllByRecursion as All}
 use Rattle.std.proofs.ByRecursion.{all-has}
 use Rattle.std.proofs.lemmas.Bool.{and_parts, ltb-true, ltb-false, leb-true, le-ltb, cond-false}
@@ -9,13 +9,10 @@ use Rattle.block.specs.declared.lattice.Point.{Point}
 use Rattle.cell.specs.Corner.{corner_height}
 use Rattle.cell.specs.Face.{face_segments}
 use Rattle.cell.specs.Level.{on_level}
-use Rattle.cell.specs.declared.face.FacePoint.{FacePoint}
 use Rattle.cell.specs.declared.level.Height.{Height}
 use Rattle.cell.specs.declared.level.Level.{Level}
 use Rattle.cell.specs.declared.vertex.Axis.TheVariants.{X, Y, Z}
-use Rattle.cell.specs.declared.vertex.Place.{Place}
 use Rattle.cell.specs.declared.vertex.Side.{Side}
-use Rattle.cell.specs.declared.vertex.Vertex.{Vertex}
 use Rattle.clipping.specs.Clip.{Triangle, is_on, vertices_on, triangles}
 use Rattle.clipping.specs.Faces.{Off, Placed, local_vertices, local_order, across_x, across_y, across_z, faces, on_face, voxel_segments}
 use Rattle.clipping.specs.Laws.{Proper}

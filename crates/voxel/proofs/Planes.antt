@@ -1,14 +1,13 @@
 -- Two planes of four corners are the eight corners of a voxel.
-use Rattle.std.proofs.Common.{◌≡◌, ℕ, ◌<◌, List, [], ◌∷◌, ◌++◌, map, length, get_or, ℤ, pos, Some, None, Option, sym, refl, ap, ◌∙◌, arith}
+use Rattle.std.proofs.Common.{◌≡◌, ℕ, ◌<◌, List, [], ◌∷◌, ◌++◌, map, length, get_or, ℤ, pos, Some, None, Option, sym, ap, ◌∙◌, arith}
 use lib.ListN.{length-map}
 use Rattle.block.specs.Block.{Block}
 use Rattle.block.specs.Refusals.{Told}
 use Rattle.block.specs.declared.lattice.Point.{Point}
-use Rattle.cell.specs.Corner.{corner_declined, corner_height, corners_declined}
+use Rattle.cell.specs.Corner.{corner_declined, corners_declined}
 use Rattle.cell.specs.declared.level.Height.{Height}
 use Rattle.cell.specs.declared.level.Level.{Level}
 use Rattle.kind.proofs.Reading.{both_none}
-use Rattle.voxel.specs.Reading.{four, HeightsAt}
 use Rattle.shell.proofs.Corners.{corner_read}
 
 -- where the corners of two lists serve, those of both do

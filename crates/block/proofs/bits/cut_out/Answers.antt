@@ -1,6 +1,6 @@
 use Rattle.std.proofs.Common.{◌+◌, ◌-◌, ◌/◌, ◌%◌, ◌^◌, ◌<◌, ◌≤◌, sym, ap, ◌∙◌, subst, arith, pow_mono}
 use Rattle.std.proofs.lemmas.Nat.{mod_below, pow_pos}
-use Rattle.block.specs.Bits.{field, five}
+use Rattle.block.specs.Bits.{five}
 use Rattle.block.proofs.Fields.{Bytes, field_of_five, field_below, masked}
 use Rattle.block.proofs.bits.cut_out.Goals as goal
 

@@ -1,11 +1,10 @@
-use Rattle.std.proofs.Common.{◌≡◌, ◌-◌, ◌≤◌, true, false, eqb, length, take, drop, Some, None, sym, ap, ◌∙◌, w32, rules}
+use Rattle.std.proofs.Common.{◌≤◌, length, None, ap, ◌∙◌, w32, rules}
 use Rattle.std.proofs.lemmas.List.{take_rest}
 use Rattle.std.proofs.lemmas.Result.{err_from_is_err_and}
 use Rattle.std.proofs.lemmas.Int.{to_z-of_z}
 use Rattle.std.proofs.lemmas.Bool.{cond-true, cond-false, eq-eqb, ne_eqb}
 use Rattle.block.specs.Packed.{block_of_bytes}
-use Rattle.block.specs.Refusals.{told, or_else}
-use Rattle.job.proofs.Headers.{spare_declined, kind_same, p_same, q_same, declined_by}
+use Rattle.job.proofs.Headers.{kind_same, p_same, q_same, declined_by}
 use Rattle.job.proofs.Job.decode.Goals as goal
 
 pub returns-in_err-block : goal.returns-in_err-block

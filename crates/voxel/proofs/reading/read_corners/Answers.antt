@@ -1,4 +1,4 @@
-use Rattle.std.proofs.Common.{◌≡◌, ◌<◌, true, [], ◌∷◌, ◌++◌, map, get_or, None, sym, ap, ◌∙◌, subst, arith, lit<}
+use Rattle.std.proofs.Common.{◌≡◌, true, [], ◌∷◌, map, None, sym, ◌∙◌, subst, lit<}
 use Rattle.std.proofs.lemmas.Bool.{cond-true}
 use Rattle.cell.specs.Corner.{corner_height, corners_declined}
 use Rattle.cell.specs.declared.vertex.Axis.TheVariants.{Z}

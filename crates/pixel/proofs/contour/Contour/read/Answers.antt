@@ -1,4 +1,4 @@
-use Rattle.std.proofs.Common.{◌≡◌, true, sym, ◌∙◌, subst}
+use Rattle.std.proofs.Common.{◌≡◌, true, sym, subst}
 use Rattle.pixel_theory.specs.Pixel.{is_pixel}
 use Rattle.pixel.proofs.Places.{next_fits}
 use Rattle.pixel.proofs.contour.Contour.read.Goals as goal

@@ -1,9 +1,7 @@
-use Rattle.std.proofs.Common.{◌≡◌, map, sym, ap, ◌∙◌}
-use Rattle.cell.specs.Corners.{at_corners}
+use Rattle.std.proofs.Common.{sym, ◌∙◌}
 use Rattle.kind.proofs.Reading.{readable}
 use Rattle.pixel_theory.specs.Kind.{pixel}
 use Rattle.pixel_theory.specs.Numbers.{points_in}
-use Rattle.pixel_theory.specs.Pixel.{vertex_of}
 use Rattle.pixel_theory.proofs.Numbering.{vertices_by_cut, pieces_by_cut}
 use Rattle.pixel.proofs.Held.{vertices_held, borders_held}
 use Rattle.pixel.proofs.shape.PixelKind.read.Goals as goal

@@ -1,6 +1,5 @@
-use Rattle.std.proofs.Common.{◌≡◌, ◌+◌, ◌<◌, ◌≤◌, length, Some, None, sym, ap, ◌∙◌, subst, arith}
+use Rattle.std.proofs.Common.{◌+◌, ◌<◌, ◌≤◌, length, None, sym, ap, ◌∙◌, subst, arith}
 use Rattle.std.proofs.lemmas.Result.{err_from_is_err_and}
-use Rattle.block.specs.Refusals.{told}
 use Rattle.kind.specs.Meaning.{cell_declined}
 use Rattle.pixel_theory.specs.Kind.{pixel}
 use Rattle.pixel.specs.Pixels.{pixel_count}

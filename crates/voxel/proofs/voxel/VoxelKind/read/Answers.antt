@@ -1,4 +1,4 @@
-use Rattle.std.proofs.Common.{◌≡◌, ℕ, map, Some, None, sym, ap, ◌∙◌, arith}
+use Rattle.std.proofs.Common.{◌≡◌, ℕ, map, Some, None, ap, ◌∙◌, arith}
 use Rattle.clipping.specs.Faces.{faces}
 use Rattle.voxel_theory.specs.Voxel.{sides}
 use Rattle.voxel.specs.Local.{local_vertex, numbered, face_cuts, paired}
