@@ -1,6 +1,6 @@
 -- The clipping of every tame set ends with nothing left, and its triangles fill the set.
 use Rattle.std.proofs.Common.{◌≡◌, ℕ, zero, suc, ◌+◌, ◌%◌, ◌<◌, ◌≤◌, true, ◌&&◌, eqb, ◌≢◌, ◌↔◌, List, [], ◌∷◌, length, refl, ⊎_elim, arith}
-use Rattle.std.specs.List.{AllByRecursion as All}
+use Rattle.std.specs.List.{AllByRecursion}
 use Rattle.std.proofs.lemmas.List.Sums.{sum_by-cons}
 use Rattle.std.proofs.lemmas.Bool.Decides.{nat_tests}
 use Rattle.std.proofs.lemmas.Bool.{cases_eq, cases_lt}
@@ -24,7 +24,7 @@ names_edges v a b x y p q r d = grind (arith, nat_tests)
 -- What the triangles are to the segments, with the parity in numbers.
 record Done (S : List Segment) (ts : List Triangle) : Type 0 where
   parity : (x y : ℕ) → x ≢ y → shared ts x y % 2 ≡ times S x y % 2
-  proper : All Proper ts
+  proper : AllByRecursion Proper ts
   named : (w : ℕ) → (0 < uses ts w) ↔ (0 < degree S w)
   few : 0 < length S → length ts + 2 ≤ length S
   empty : length S ≡ 0 → length ts ≡ 0

@@ -1,6 +1,6 @@
 -- The local vertices in order, and those of them that pass a test, gathered one after the other.
 use Rattle.std.proofs.Common.{◌≡◌, ℕ, zero, suc, ◌+◌, ◌<◌, Bool, true, false, cond, List, [], ◌∷◌, ◌++◌, length, get_or, take, set, filter, sym, refl, ap, ◌∙◌, subst, zero-add, arith, lit<}
-use Rattle.std.specs.List.{ContainsAt as Has, AllByRecursion as All}
+use Rattle.std.specs.List.{ContainsAt as Has, AllByRecursion}
 use Rattle.std.proofs.lemmas.List.Elements.{filter_more}
 use Rattle.std.proofs.ByRecursion.{has_get_or, all-has}
 use Rattle.std.proofs.lemmas.List.{take_more_set, append-nil}
@@ -44,5 +44,5 @@ kept_same p q (v ∷ vs) e =
 pub order_same : (p q : ℕ → Bool) → ((v : ℕ) → v < local_vertices → p v ≡ q v) → filter p local_order ≡ filter q local_order
 order_same p q e = kept_same p q local_order (λ v h. e v (all-has (λ w. w < local_vertices) local_order v below h))
   where
-    below : All (λ w. w < local_vertices) local_order
+    below : AllByRecursion (λ w. w < local_vertices) local_order
     below = (lit< tt, (lit< tt, (lit< tt, (lit< tt, (lit< tt, (lit< tt, (lit< tt, (lit< tt, (lit< tt, (lit< tt, (lit< tt, (lit< tt, (lit< tt, (lit< tt, (lit< tt, (lit< tt, (lit< tt, (lit< tt, tt))))))))))))))))))

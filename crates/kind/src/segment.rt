@@ -1,6 +1,5 @@
 // Segments: the pieces of a contour.
-ghost use Rattle.std.specs.Prelude.{List, [], ◌∷◌};
-ghost use Rattle.std.proofs.Common.{rules};
+ghost use Rattle.std.specs.Prelude.{List, [], ◌∷◌, refl};
 
 use crate::piece::Piece;
 
@@ -16,5 +15,5 @@ impl Piece for Segment {
 
     ghost numbers = { λ s. s.from ∷ s.to ∷ [] };
 
-    ghost size = { Prim.search rules };
+    ghost size = { λ _. refl };
 }

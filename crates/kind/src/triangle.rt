@@ -1,6 +1,5 @@
 // Triangles: the pieces of a shell.
-ghost use Rattle.std.specs.Prelude.{List, [], ◌∷◌};
-ghost use Rattle.std.proofs.Common.{rules};
+ghost use Rattle.std.specs.Prelude.{List, [], ◌∷◌, refl};
 
 use crate::piece::Piece;
 
@@ -17,5 +16,5 @@ impl Piece for Triangle {
 
     ghost numbers = { λ t. t.first ∷ t.second ∷ t.third ∷ [] };
 
-    ghost size = { Prim.search rules };
+    ghost size = { λ _. refl };
 }

@@ -1,9 +1,8 @@
 // The kind of pixels.
-ghost use Rattle.std.specs.Prelude.{◌≡◌, map};
+ghost use Rattle.std.specs.Prelude.{◌≡◌, map, refl};
 ghost use Rattle.pixel.specs.Contour.{shape_points, shape_parts, contour_borders};
 ghost use Rattle.pixel.specs.PixelLaws.{pixel_laws};
 ghost use Rattle.pixel_theory.specs.Kind.{pixel};
-ghost use Rattle.std.proofs.Common.{rules};
 
 use crate::contour::Contour;
 pub use crate::contour::PixelShape;
@@ -56,7 +55,7 @@ impl Kind for Pixel {
 
     ghost laws = { pixel_laws };
 
-    ghost arity = { Prim.search rules };
+    ghost arity = { refl };
 
     fn is_cell(&self, sizes: Sizes, at: Point) -> bool {
         is_pixel(sizes, at)

@@ -1,6 +1,6 @@
 -- Rows of checks, and what a take that passes all of them is known by.
 use Rattle.std.proofs.Common.{◌≡◌, ℕ, ◌+◌, ◌<◌, ◌≤◌, Bool, true, false, ◌⊎◌, List, [], ◌∷◌, ◌++◌, length, is_some, Some, None, Option, sym, refl, ap, inl, inr, ⊎_elim}
-use Rattle.std.specs.List.{ContainsAt as Has, AllByRecursion as All}
+use Rattle.std.specs.List.{ContainsAt as Has, AllByRecursion}
 use Rattle.std.proofs.lemmas.Bool.{false≢true, both_ways, not-false, leb-false, ltb-false}
 use Rattle.block.specs.Block.{Block}
 use Rattle.block.specs.Refusals.{Told, plain}
@@ -15,12 +15,12 @@ pub some_none : {X : Type 0} (x : X) → Some x ≡ None → ⊥
 some_none x e = false≢true (sym (ap is_some e))
 
 -- a row of checks that refuses nothing has passed each check
-pub passed : (xs : List (Option Told)) → first_refusal xs ≡ None → All (λ x. x ≡ None) xs
+pub passed : (xs : List (Option Told)) → first_refusal xs ≡ None → AllByRecursion (λ x. x ≡ None) xs
 passed [] e = tt
 passed (Some t ∷ xs) e = absurd (some_none t e)
 passed (None ∷ xs) e = (refl, passed xs e)
 
-pub passes : (xs : List (Option Told)) → All (λ x. x ≡ None) xs → first_refusal xs ≡ None
+pub passes : (xs : List (Option Told)) → AllByRecursion (λ x. x ≡ None) xs → first_refusal xs ≡ None
 passes [] all = refl
 passes (x ∷ xs) all = rw all.0 (passes xs all.1)
 
@@ -31,7 +31,7 @@ refusal_cases (Some t ∷ xs) ys r e = inl (t, refl, e)
 refusal_cases (None ∷ xs) ys r e = refusal_cases xs ys r e
 
 -- what holds of each refusal that a row can give holds of the one that it gives
-pub refusal_is : (P : Told → Type 0) (xs : List (Option Told)) → All (λ x. (t : Told) → x ≡ Some t → P t) xs → (t : Told) → first_refusal xs ≡ Some t → P t
+pub refusal_is : (P : Told → Type 0) (xs : List (Option Told)) → AllByRecursion (λ x. (t : Told) → x ≡ Some t → P t) xs → (t : Told) → first_refusal xs ≡ Some t → P t
 refusal_is P [] all t e = absurd (some_none t (sym e))
 refusal_is P (Some u ∷ xs) all t e = all.0 t e
 refusal_is P (None ∷ xs) all t e = refusal_is P xs all.1 t e

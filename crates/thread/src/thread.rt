@@ -1,9 +1,8 @@
 // The kind itself.
-ghost use Rattle.std.specs.Prelude.{◌≡◌, ◌+◌, ◌^◌, ◌<◌, true};
+ghost use Rattle.std.specs.Prelude.{◌≡◌, ◌+◌, ◌^◌, ◌<◌, true, refl};
 ghost use Rattle.thread.specs.Held.{held_borders};
 ghost use Rattle.thread.specs.Thread.{thread, is_bead, knot, after};
 ghost use Rattle.thread.specs.ThreadLaws.{thread_laws};
-ghost use Rattle.std.proofs.Common.{rules};
 
 use crate::bead::Bead;
 use block::lattice::{Point, Sizes};
@@ -99,7 +98,7 @@ impl Kind for Thread {
 
     ghost laws = { thread_laws };
 
-    ghost arity = { Prim.search rules };
+    ghost arity = { refl };
 
     fn is_cell(&self, sizes: Sizes, at: Point) -> bool {
         is_bead(sizes, at)

@@ -1,6 +1,6 @@
 -- What a shape holds is what its voxel means.
 use Rattle.std.proofs.Common.{◌≡◌, ℕ, zero, suc, ◌+◌, ◌<◌, Bool, true, cond, ◌&&◌, ltb, leb, List, [], ◌∷◌, map, length, get_or, ℤ, pos, Some, None, filter, Option, sym, refl, ap, ◌∙◌, ap₂, arith, lit<}
-use Rattle.std.specs.List.{ContainsAt as Has, AllByRecursion as All}
+use Rattle.std.specs.List.{ContainsAt as Has, AllByRecursion}
 use Rattle.std.proofs.ByRecursion.{all-has}
 use Rattle.std.proofs.lemmas.Bool.{and_parts, ltb-true, ltb-false, leb-true, le-ltb, cond-false}
 use Rattle.block.specs.Block.{Block}
@@ -47,7 +47,7 @@ off_from hs h k l = (lowest_is (λ j. on_level (by_corner hs j)) 8).first k (let
 pub from_off : (hs : List Height) → Off (by_corner hs) → AllOff hs
 from_off hs off = le-ltb _ 8 (let e = lowest_none (λ j. on_level (by_corner hs j)) 8 off in omega arith)
 
-below : All (λ w. w < local_vertices) local_order
+below : AllByRecursion (λ w. w < local_vertices) local_order
 below = (lit< tt, (lit< tt, (lit< tt, (lit< tt, (lit< tt, (lit< tt, (lit< tt, (lit< tt, (lit< tt, (lit< tt, (lit< tt, (lit< tt, (lit< tt, (lit< tt, (lit< tt, (lit< tt, (lit< tt, (lit< tt, tt))))))))))))))))))
 
 vertex_below : (p : ℕ → Bool) (v : ℕ) → Has (filter p local_order) v → v < local_vertices
@@ -86,7 +86,7 @@ module _ (b : Block) (l : Level) (at : Point) (hs : List Height) (e : HeightsAt 
   number_rank (v ∷ vs) t low lt =
       λ i. cond (place_test at v t (low v (has_here v vs v refl)) lt i) 1 (suc (number_rank vs t (λ w h. low w (has_there v vs w h)) lt i))
 
-  numbers_are : (vs : List ℕ) (ts : List Triangle) → ((v : ℕ) → Has vs v → v < local_vertices) → All Proper ts
+  numbers_are : (vs : List ℕ) (ts : List Triangle) → ((v : ℕ) → Has vs v → v < local_vertices) → AllByRecursion Proper ts
       → map (map (number (map (λ v. vertex_at b l (place_of at v)) vs))) (map (piece_of at) ts) ≡ map (numbered vs) ts
   numbers_are vs [] low p = refl
   numbers_are vs (t ∷ ts) low p =
@@ -94,7 +94,7 @@ module _ (b : Block) (l : Level) (at : Point) (hs : List Height) (e : HeightsAt 
       let lt1 : t.1 < local_vertices = omega (arith, q.2, q.4) in
       λ i. (number_rank vs t.0 low q.3 i ∷ number_rank vs t.1 low lt1 i ∷ number_rank vs t.2 low q.4 i ∷ []) ∷ numbers_are vs ts low p.1 i
 
-  pub pieces_held : All Proper (triangles (segments b l at))
+  pub pieces_held : AllByRecursion Proper (triangles (segments b l at))
       → map (numbered (vertices_on (voxel_segments (by_corner hs)))) (triangles (voxel_segments (by_corner hs))) ≡ map (map (number (voxel.vertices b l at))) (voxel.pieces b l at)
   pieces_held p =
       ap (λ ss. map (numbered (vertices_on ss)) (triangles ss)) segments_same
@@ -126,7 +126,7 @@ module _ (b : Block) (l : Level) (at : Point) (hs : List Height) (e : HeightsAt 
     pub read_off : AllOff hs
     read_off = from_off hs (λ k h. ap on_level (corner_same k h) ∙ rules_off k h)
 
-    pub triangles_proper : All Proper (triangles (segments b l at))
+    pub triangles_proper : AllByRecursion Proper (triangles (segments b l at))
     triangles_proper = (shells (heights b l at) rules_off).0.proper
 
     pub shell_told : (o : Option Local) → o ≡ shell_rule (by_corner hs) → o ≡ Some (shell_of (by_corner hs))

@@ -1,5 +1,5 @@
 // The kind of voxels.
-ghost use Rattle.std.specs.Prelude.{◌≡◌, ◌+◌, ◌^◌, ◌<◌, ◌≤◌, [], ◌∷◌, map, length, take};
+ghost use Rattle.std.specs.Prelude.{◌≡◌, ◌+◌, ◌^◌, ◌<◌, ◌≤◌, [], ◌∷◌, map, length, take, refl};
 ghost use Rattle.voxel.specs.Local.{corner_at, edge_vertex, centre_vertex, local_vertex, rank, numbered, shape_points, shape_parts, shape_borders, face_at, FaceOn};
 ghost use Rattle.voxel.specs.Reading.{Near};
 ghost use Rattle.shell.specs.Shell.{AllOff, Fits, by_corner, named, told};
@@ -9,7 +9,6 @@ ghost use Rattle.std.specs.List.{slice_get};
 ghost use Rattle.clipping.specs.Faces.{points};
 ghost use Rattle.kind.specs.Shapes.{places_in, cut_at};
 ghost use Rattle.voxel_theory.specs.Voxel.{voxel, place_of, sides};
-ghost use Rattle.std.proofs.Common.{rules};
 
 use crate::held::VoxelShape;
 use crate::reading::{is_voxel, read_corners};
@@ -61,7 +60,7 @@ impl Kind for Voxel {
 
     ghost laws = { voxel_laws };
 
-    ghost arity = { Prim.search rules };
+    ghost arity = { refl };
 
     fn is_cell(&self, sizes: Sizes, at: Point) -> bool {
         is_voxel(sizes, at)

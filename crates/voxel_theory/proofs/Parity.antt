@@ -1,7 +1,7 @@
 -- A joint lies on an odd number of a voxel's triangles exactly when it is a cut of one of its sides.
 use Rattle.std.proofs.Common.{◌≡◌, ℕ, ◌+◌, ◌<◌, Bool, true, false, cond, ◌&&◌, ◌||◌, eqb, ◌≢◌, ◌⊎◌, ◌↔◌, List, [], ◌∷◌, ◌++◌, map, count_by, sym, refl, ap, ◌∙◌, subst, ap₂, inl, inr, ⊎_elim, arith}
 use mathlib.Core.Bool.{and-true}
-use Rattle.std.specs.List.{ContainsAt as Has, AllByRecursion as All}
+use Rattle.std.specs.List.{ContainsAt as Has, AllByRecursion}
 use Rattle.std.proofs.ByRecursion.{has_get_or}
 use Rattle.std.proofs.lemmas.List.Sums.{sum_by-cons}
 use Rattle.std.proofs.lemmas.Bool.{and_left, and_right, or_cases, or_left, or_right, false≢true, cases_Bool, cond-false}
@@ -167,7 +167,7 @@ module _ (b : Block) (l : Level) (c : Point) where
   on_as : (t : Triangle) → Proper t → (m n : ℕ) → m < local_vertices → n < local_vertices → on (joint_at m n) (piece_of c t) ≡ (names_vertex m t && names_vertex n t)
   on_as t p m n lm ln = (λ i. names_as t p m lm i && (names_as t p n ln i && true)) ∙ ap (λ z. names_vertex m t && z) (and-true (names_vertex n t))
 
-  count_as : (ts : List Triangle) → All Proper ts → (m n : ℕ) → m < local_vertices → n < local_vertices → count_by (on (joint_at m n)) (map (piece_of c) ts) ≡ shared ts m n
+  count_as : (ts : List Triangle) → AllByRecursion Proper ts → (m n : ℕ) → m < local_vertices → n < local_vertices → count_by (on (joint_at m n)) (map (piece_of c) ts) ≡ shared ts m n
   unfolding shared
   count_as [] p m n lm ln = refl
   count_as (t ∷ ts) p m n lm ln =
@@ -186,7 +186,7 @@ module _ (b : Block) (l : Level) (c : Point) where
   no_names : (t : Triangle) → Proper t → (p : Place) → (Has (local_places c) p → ⊥) → names (piece_of c t) p ≡ false
   no_names t q p out = ⊎_elim (λ h. absurd (out (piece_local t q p ((names_decides (piece_of c t) p).0 h)))) (λ h. h) (cases_Bool (names (piece_of c t) p))
 
-  count_none : (ts : List Triangle) → All Proper ts → (u v : Place) → (Has (local_places c) u → ⊥) ⊎ (Has (local_places c) v → ⊥) → count_by (on (u ∷ v ∷ [])) (map (piece_of c) ts) ≡ 0
+  count_none : (ts : List Triangle) → AllByRecursion Proper ts → (u v : Place) → (Has (local_places c) u → ⊥) ⊎ (Has (local_places c) v → ⊥) → count_by (on (u ∷ v ∷ [])) (map (piece_of c) ts) ≡ 0
   count_none [] p u v out = refl
   count_none (t ∷ ts) p u v out =
       let off : on (u ∷ v ∷ []) (piece_of c t) ≡ false = ⊎_elim

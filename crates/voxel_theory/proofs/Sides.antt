@@ -1,6 +1,6 @@
 -- The sides of voxels: each is listed once, belongs to at most two voxels, and is told by any two of its points.
 use Rattle.std.proofs.Common.{◌≡◌, ℕ, ◌+◌, ◌-◌, min, Bool, true, false, cond, eqb, ◌⊎◌, List, ℤ, Some, None, Option, sym, refl, ap, ◌∙◌, subst, ap₂, inl, inr, ⊎_elim, arith}
-use Rattle.std.specs.List.{ContainsAt as Has, AllByRecursion as All}
+use Rattle.std.specs.List.{ContainsAt as Has, AllByRecursion}
 use Rattle.std.proofs.ByRecursion.{all-has}
 use Rattle.std.proofs.lemmas.Bool.{eq-eqb, ne_eqb, cond-true, cond-false}
 use Rattle.block.specs.Block.{Block}
@@ -211,7 +211,7 @@ restored_back s j2C = made _ s refl (lower_same s.point)
 restored_back s j3C = made _ s refl (lower_next (second_axis s.axis) s.point)
 
 abbrev AllJoined : List FaceSegment → Type 0
-AllJoined ts = All (λ (t : FaceSegment). Joined t.0 t.1) ts
+AllJoined ts = AllByRecursion (λ (t : FaceSegment). Joined t.0 t.1) ts
 
 all_joined : (p0 p1 p2 p3 : Bool) (d : Sign) → AllJoined (join (crossed_edges p0 p1 p2 p3) d)
 all_joined true true true true minus = (j02, (j13, tt))
