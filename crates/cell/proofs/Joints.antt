@@ -1,7 +1,7 @@
 -- How the crossings of a face are joined: a case for each of the signs at its corners, of Δ and of its points, computed.
 use Rattle.std.proofs.Common.{◌≡◌, Bool, true, false, ◌&&◌, ◌||◌, eqb, refl, arith}
 use Rattle.std.proofs.lemmas.Bool.{and_parts, or_parts, eqb-true, true≢false}
-use Rattle.cell.specs.Level.{Sign, minus, none, plus, is_none}
+use Rattle.cell.specs.Level.{Sign, minus, none, plus, sign_is_none}
 use Rattle.cell.specs.Crossing.{opposite}
 use Rattle.cell.specs.Face.{FacePoint, P0, P1, P2, P3, C, join, joined_by_Δ, crossings}
 use Rattle.cell.specs.Interpolant.{Corner, c00, c10, c01, c11, corner, beside, times_in, ends_at, one_if, degree}
@@ -15,7 +15,7 @@ each_sign t = t minus && (t none && t plus)
 abbrev pub each_point : (FacePoint → Bool) → Bool
 each_point t = t P0 && (t P1 && (t P2 && (t P3 && t C)))
 
-pub at_side : (t : Sign → Bool) → either_side t ≡ true → (s : Sign) → is_none s ≡ false → t s ≡ true
+pub at_side : (t : Sign → Bool) → either_side t ≡ true → (s : Sign) → sign_is_none s ≡ false → t s ≡ true
 at_side t h minus off = (and_parts _ _ h).0
 at_side t h none off = absurd (true≢false off)
 at_side t h plus off = (and_parts _ _ h).1
@@ -60,7 +60,7 @@ cut_test s t k = eqb (times_in (joined_by_Δ t) (beside k)) (one_if (opposite (c
 all_cut : either_side (λ s. each_sign (λ t. each_corner (cut_test s t))) ≡ true
 all_cut = refl
 
-pub cut_by_signs : (s t : Sign) → is_none s ≡ false → (k : Corner)
+pub cut_by_signs : (s t : Sign) → sign_is_none s ≡ false → (k : Corner)
     → times_in (joined_by_Δ t) (beside k) ≡ one_if (opposite (corner s (turned s) (turned s) s k) (signed s t))
 cut_by_signs s t off k =
     let at_s = at_side (λ s. each_sign (λ t. each_corner (cut_test s t))) all_cut s off in
@@ -85,12 +85,12 @@ test00 s00 = either_side (test10 s00)
 all_joined : either_side test00 ≡ true
 all_joined = refl
 
-pub joined_by_signs : (s00 s10 s01 s11 d : Sign) → (is_none s00 || (is_none s10 || (is_none s01 || is_none s11))) ≡ false
+pub joined_by_signs : (s00 s10 s01 s11 d : Sign) → (sign_is_none s00 || (sign_is_none s10 || (sign_is_none s01 || sign_is_none s11))) ≡ false
     → (x : FacePoint) → ends_at (join (crossings s00 s10 s01 s11) d) x ≡ degree s00 s10 s01 s11 d x
 joined_by_signs s00 s10 s01 s11 d off x =
-    let parts00 = or_parts (is_none s00) _ off in
-    let parts10 = or_parts (is_none s10) _ parts00.1 in
-    let parts01 = or_parts (is_none s01) (is_none s11) parts10.1 in
+    let parts00 = or_parts (sign_is_none s00) _ off in
+    let parts10 = or_parts (sign_is_none s10) _ parts00.1 in
+    let parts01 = or_parts (sign_is_none s01) (sign_is_none s11) parts10.1 in
     let at00 = at_side test00 all_joined s00 parts00.0 in
     let at10 = at_side (test10 s00) at00 s10 parts10.0 in
     let at01 = at_side (test01 s00 s10) at10 s01 parts01.0 in

@@ -1,6 +1,6 @@
 -- How the level cuts a unit face, by the heights at its corners 00, 10, 01, 11.
 use Rattle.std.specs.Prelude.{ℕ, ◌+◌, Bool, true, false, cond, ◌&&◌, ◌||◌, List, [], ◌∷◌, ℤ, ◌-ℤ◌, ◌*ℤ◌, Some, None, Option, unsigned_abs}
-use Rattle.cell.specs.Level.{Sign, minus, none, plus, sign, is_none, on_level}
+use Rattle.cell.specs.Level.{Sign, minus, none, plus, sign, sign_is_none, on_level}
 use Rattle.cell.specs.Crossing.{opposite, Offset, offset, crossing_of}
 use Rattle.cell.specs.declared.face.Centre.{Centre}
 pub use Rattle.cell.specs.declared.face.FacePoint.{FacePoint}
@@ -60,7 +60,7 @@ all_crossed s00 s10 s01 s11 = opposite s00 s01 && (opposite s10 s11 && (opposite
 
 -- whether all four edges have a crossing and Δ is 0, from the signs at the corners and that of Δ
 abbrev pub centred : Sign → Sign → Sign → Sign → Sign → Bool
-centred s00 s10 s01 s11 d = all_crossed s00 s10 s01 s11 && is_none d
+centred s00 s10 s01 s11 d = all_crossed s00 s10 s01 s11 && sign_is_none d
 
 -- whether a face has its centre
 abbrev pub has_centre : ℤ → ℤ → ℤ → ℤ → Bool

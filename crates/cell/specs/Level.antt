@@ -17,14 +17,14 @@ sign (pos zero) = none
 sign (pos (suc n)) = plus
 sign (negsuc n) = minus
 
-abbrev pub is_none : Sign → Bool
-is_none minus = false
-is_none none = true
-is_none plus = false
+abbrev pub sign_is_none : Sign → Bool
+sign_is_none minus = false
+sign_is_none none = true
+sign_is_none plus = false
 
 -- the level meets a point where the height is 0
 abbrev pub on_level : ℤ → Bool
-on_level g = is_none (sign g)
+on_level g = sign_is_none (sign g)
 
 -- the greatest size of p, the greatest q, and the greatest size of a sample
 abbrev pub most_p : ℕ

@@ -1,7 +1,7 @@
 -- A test of every way in which the signs of a voxel's corners and the Δ of its faces can fall, by computation.
 use Rattle.std.proofs.Common.{◌≡◌, ℕ, suc, Bool, true, false, cond, not, ◌&&◌, eqb, ltb, leb, List, [], ◌∷◌, ◌++◌, length, refl}
 use Rattle.std.proofs.lemmas.Bool.{and_parts, true≢false}
-use Rattle.cell.specs.Level.{Sign, minus, none, plus, is_none}
+use Rattle.cell.specs.Level.{Sign, minus, none, plus, sign_is_none}
 use Rattle.cell.specs.Crossing.{opposite}
 use Rattle.cell.specs.Face.{FaceSegment, crossed_edges, crossings, join, joined_by_Δ, centred}
 use Rattle.clipping.specs.Faces.{Segment, placed, across_x, across_y, across_z, local_vertices}
@@ -11,7 +11,7 @@ use Rattle.clipping.specs.Clip.{degree, linked, ends_at, joins}
 pub every_side : (Sign → Bool) → Bool
 every_side p = p minus && p plus
 
-every_side_at : (p : Sign → Bool) → every_side p ≡ true → (s : Sign) → is_none s ≡ false → p s ≡ true
+every_side_at : (p : Sign → Bool) → every_side p ≡ true → (s : Sign) → sign_is_none s ≡ false → p s ≡ true
 unfolding every_side
 every_side_at p h minus off = (and_parts (p minus) (p plus) h).0
 every_side_at p h none off = absurd (true≢false off)
@@ -25,7 +25,7 @@ every_cut p0 p1 p2 p3 test =
     (test (join (crossed_edges p0 p1 p2 p3) none) false)
 
 every_cut_at : (p0 p1 p2 p3 : Bool) (test : List FaceSegment → Bool → Bool) → every_cut p0 p1 p2 p3 test ≡ true
-    → (d : Sign) → test (join (crossed_edges p0 p1 p2 p3) d) ((p0 && (p1 && (p2 && p3))) && is_none d) ≡ true
+    → (d : Sign) → test (join (crossed_edges p0 p1 p2 p3) d) ((p0 && (p1 && (p2 && p3))) && sign_is_none d) ≡ true
 unfolding every_cut
 every_cut_at true true true true test h minus = (and_parts _ _ h).0
 every_cut_at true true true true test h none = (and_parts _ _ (and_parts (test (joined_by_Δ minus) false) _ h).1).0
@@ -114,7 +114,7 @@ all_good = refl
 
 -- one way of the signs and of the Δ
 pub good_at : (s0 s1 s2 s3 s4 s5 s6 s7 d0 d1 d2 d3 d4 d5 : Sign)
-    → is_none s0 ≡ false → is_none s1 ≡ false → is_none s2 ≡ false → is_none s3 ≡ false → is_none s4 ≡ false → is_none s5 ≡ false → is_none s6 ≡ false → is_none s7 ≡ false
+    → sign_is_none s0 ≡ false → sign_is_none s1 ≡ false → sign_is_none s2 ≡ false → sign_is_none s3 ≡ false → sign_is_none s4 ≡ false → sign_is_none s5 ≡ false → sign_is_none s6 ≡ false → sign_is_none s7 ≡ false
     → good
     (six (join (crossings s0 s2 s4 s6) d0) (join (crossings s1 s3 s5 s7) d1) (join (crossings s0 s1 s4 s5) d2)
     (join (crossings s2 s3 s6 s7) d3) (join (crossings s0 s1 s2 s3) d4) (join (crossings s4 s5 s6 s7) d5))

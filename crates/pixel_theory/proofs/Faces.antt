@@ -3,7 +3,7 @@ use Rattle.std.proofs.Common.{◌≡◌, Bool, true, false, ◌||◌, eqb, ℤ, 
 use Rattle.std.proofs.lemmas.Bool.{or_parts, eqb-true}
 use Rattle.cell.specs.Face.{FaceSegment, join, crossings, face_segments, meets_level, Δ}
 use Rattle.cell.specs.Interpolant.{same, degree}
-use Rattle.cell.specs.Level.{Sign, sign, is_none}
+use Rattle.cell.specs.Level.{Sign, sign, sign_is_none}
 use Rattle.cell.specs.declared.face.FacePoint.{FacePoint}
 use Rattle.cell.proofs.Joints.{each_point, each_sign, either_side, at_point, at_sign, at_side}
 
@@ -19,12 +19,12 @@ module _ (t : Sign → Sign → Sign → Sign → Sign → FacePoint → Bool) w
   abbrev pub computed : Bool
   computed = either_side (λ s00. either_side (λ s10. either_side (λ s01. either_side (at11 s00 s10 s01))))
 
-  pub for_all : computed ≡ true → (s00 s10 s01 s11 d : Sign) → (is_none s00 || (is_none s10 || (is_none s01 || is_none s11))) ≡ false
+  pub for_all : computed ≡ true → (s00 s10 s01 s11 d : Sign) → (sign_is_none s00 || (sign_is_none s10 || (sign_is_none s01 || sign_is_none s11))) ≡ false
       → (x : FacePoint) → t s00 s10 s01 s11 d x ≡ true
   for_all all s00 s10 s01 s11 d off x =
-      let parts00 = or_parts (is_none s00) _ off in
-      let parts10 = or_parts (is_none s10) _ parts00.1 in
-      let parts01 = or_parts (is_none s01) (is_none s11) parts10.1 in
+      let parts00 = or_parts (sign_is_none s00) _ off in
+      let parts10 = or_parts (sign_is_none s10) _ parts00.1 in
+      let parts01 = or_parts (sign_is_none s01) (sign_is_none s11) parts10.1 in
       let h00 = at_side (λ s00. either_side (λ s10. either_side (λ s01. either_side (at11 s00 s10 s01)))) all s00 parts00.0 in
       let h10 = at_side (λ s10. either_side (λ s01. either_side (at11 s00 s10 s01))) h00 s10 parts10.0 in
       let h01 = at_side (λ s01. either_side (at11 s00 s10 s01)) h10 s01 parts01.0 in

@@ -2,7 +2,7 @@
 use Rattle.std.proofs.Common.{◌≡◌, ℕ, zero, suc, ◌<◌, Bool, true, false, not, List, [], ◌∷◌, ◌++◌, length, get_or, ℤ, Some, None, sym, refl, ap, ◌∙◌, ap₂, arith, lit<}
 use mathlib.Core.Bool.{beq}
 use Rattle.std.proofs.lemmas.Bool.{true≢false, false≢true, or_from, cond-false}
-use Rattle.cell.specs.Level.{Sign, minus, none, plus, sign, is_none, on_level}
+use Rattle.cell.specs.Level.{Sign, minus, none, plus, sign, sign_is_none, on_level}
 use Rattle.cell.specs.Crossing.{opposite}
 use Rattle.cell.specs.Face.{FaceSegment, face_segments, face_rule, meets_level, crossed_edges, join, Δ}
 use Rattle.cell.specs.declared.level.Height.{Height}
@@ -49,7 +49,7 @@ only_zero P p (suc k) h = absurd (omega arith)
 
 -- ---- one side of the level
 -- off the level a sign is told by whether it is minus
-same_sign : (s t : Sign) → is_none s ≡ false → is_none t ≡ false → is_minus s ≡ is_minus t → s ≡ t
+same_sign : (s t : Sign) → sign_is_none s ≡ false → sign_is_none t ≡ false → is_minus s ≡ is_minus t → s ≡ t
 same_sign minus minus p q e = refl
 same_sign minus none p q e = absurd (true≢false q)
 same_sign minus plus p q e = absurd (true≢false e)

@@ -6,7 +6,7 @@ use Rattle.cell.specs.declared.vertex.Side.{Side}
 use Rattle.kind.specs.Meaning.{Laws, Joint, IsJoint, Odd, CutOf, CutOfCell, on}
 use Rattle.surface.specs.Ledger.{Opening, Held, State, pieces_of}
 use Rattle.surface.specs.Surface.{OnBorder, Closed}
-use Rattle.surface.proofs.Joined.{sumBy_joined}
+use Rattle.surface.proofs.Joined.{sum_by_joined}
 use Rattle.surface.proofs.Sound.{Sound, Good, good_on}
 use Rattle.surface.proofs.Tally.{Tally, none, one, two, tally}
 
@@ -63,7 +63,7 @@ module _ (o : Opening) (laws : Laws o.meaning) (b : Block) (s : State) (ok : Sou
       absurd (ne (at h p c ∙ sym (at k q d)))
 
   closed_at : Odd (count_by (on j) (pieces_of s.held)) ↔ OnBorder o b s j
-  closed_at = rw (sumBy_joined (λ h. h.pieces) (λ q. cond (on j q) 1 0) s.held) (to_border counted, from_border counted)
+  closed_at = rw (sum_by_joined (λ h. h.pieces) (λ q. cond (on j q) 1 0) s.held) (to_border counted, from_border counted)
 
 pub closed : (o : Opening) → Laws o.meaning → (b : Block) (s : State) → Sound (λ a. a ≡ b) o s → Closed o b s
 closed o laws b s ok j joint = closed_at o laws b s ok j joint

@@ -26,10 +26,10 @@ module _ {X A : Type 0} (f : X → List A) where
   joined_append [] ys = refl
   joined_append (x ∷ xs) ys = ap (λ zs. f x ++ zs) (joined_append xs ys) ∙ sym (append_assoc (f x) (flat_map f xs) (flat_map f ys))
 
-  pub sumBy_joined : (g : A → ℕ) (xs : List X) → sum_by g (flat_map f xs) ≡ sum_by (λ x. sum_by g (f x)) xs
-  sumBy_joined g [] = refl
-  sumBy_joined g (x ∷ xs) =
-      sum_by-append g (f x) (flat_map f xs) ∙ ap (λ k. sum_by g (f x) + k) (sumBy_joined g xs) ∙ sym (sum_by-cons (λ y. sum_by g (f y)) x xs)
+  pub sum_by_joined : (g : A → ℕ) (xs : List X) → sum_by g (flat_map f xs) ≡ sum_by (λ x. sum_by g (f x)) xs
+  sum_by_joined g [] = refl
+  sum_by_joined g (x ∷ xs) =
+      sum_by-append g (f x) (flat_map f xs) ∙ ap (λ k. sum_by g (f x) + k) (sum_by_joined g xs) ∙ sym (sum_by-cons (λ y. sum_by g (f y)) x xs)
 
   length_joined : (xs : List X) → length (flat_map f xs) ≡ sum_by (λ x. length (f x)) xs
   length_joined [] = refl
