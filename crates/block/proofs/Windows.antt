@@ -3,9 +3,9 @@ use Rattle.std.proofs.Common.{◌≡◌, ℕ, ◌+◌, ◌<◌, ◌≤◌, min, 
 use Rattle.std.proofs.lemmas.Bool.{and_parts, and_from, leb-true, le-leb, cond-true, cond-false, cases_Bool, both_ways}
 use Rattle.block.specs.Block.{Block}
 use Rattle.block.specs.Faults.{fresh}
-use Rattle.block.specs.Lattice.{inside, allowed, all_allowed}
+use Rattle.block.specs.Lattice.{inside, allowed, all_allowed, plus, plus_capped}
 use Rattle.block.specs.Refusals.{plain}
-use Rattle.block.specs.Window.{shown, plus, plus_capped, passed_up, lies_within, window_declined}
+use Rattle.block.specs.Window.{shown, passed_up, lies_within, window_declined}
 use Rattle.block.specs.declared.fault.Cause.TheVariants.{Outside}
 use Rattle.block.specs.declared.lattice.Point.{Point}
 use Rattle.block.specs.declared.lattice.Sizes.{Sizes}

@@ -1,9 +1,9 @@
 -- The block that a window shows of the block below.
-use Rattle.std.specs.Prelude.{ℕ, ◌+◌, min, Bool, cond, ◌&&◌, ℤ, Some, None, Ok, Err, Option, Result, nat_le}
+use Rattle.std.specs.Prelude.{ℕ, ◌+◌, Bool, cond, ◌&&◌, ℤ, Some, None, Ok, Err, Option, Result, nat_le}
 use Rattle.block.specs.Block.{Block}
 use Rattle.block.specs.Extent.{sizes_of}
 use Rattle.block.specs.Faults.{fresh, raised}
-use Rattle.block.specs.Lattice.{inside}
+use Rattle.block.specs.Lattice.{inside, plus, plus_capped}
 use Rattle.block.specs.Refusals.{Told, plain}
 use Rattle.block.specs.declared.fault.Cause.TheVariants.{Outside}
 use Rattle.block.specs.declared.fault.Fault.{Fault}
@@ -24,17 +24,10 @@ shown place below n = record {
 }
 
 -- a point is the origin plus that point below
-abbrev pub plus : Point → Point → Point
-plus o p = record { x = o.x + p.x; y = o.y + p.y; z = o.z + p.z }
-
 abbrev pub window_block : Point → Block → Sizes → Block
 window_block o = shown (plus o)
 
--- the same sum as the code forms it, which stops at the largest coordinate; no window that was let through reaches that
-abbrev pub plus_capped : Point → Point → Point
-plus_capped o p = record { x = min (o.x + p.x) 4294967295; y = min (o.y + p.y) 4294967295; z = min (o.z + p.z) 4294967295 }
-
--- the block that a window means, from what the source below means
+-- the block that a window means, from what the source below means; no window that was let through reaches the largest coordinate
 abbrev pub window_told : {S : Type 0} → (S → Block) → Window S → Block
 window_told below w = shown (plus_capped w.origin) (below w.below) (sizes_of w.extent)
 

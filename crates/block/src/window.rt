@@ -2,7 +2,7 @@
 ghost use Rattle.std.specs.Prelude.{◌≡◌, Some, None, MatchResult};
 ghost use Rattle.block.specs.Formed.{window_formed};
 ghost use Rattle.block.specs.Refusals.{told};
-ghost use Rattle.block.specs.Window.{plus_capped, window_block, window_told, lies_within, window_declined};
+ghost use Rattle.block.specs.Window.{window_block, window_told, lies_within, window_declined};
 
 use crate::extent::Extent;
 use crate::fault::{Cause, Fault};
@@ -75,19 +75,9 @@ impl<S: Source> Source for Window<S> {
         if !self.extent.contains(p) {
             return Err(Fault::new(Cause::Outside, p));
         }
-        match self.below.sample(plus(self.origin, p)) {
+        match self.below.sample(self.origin.plus(p)) {
             Ok(v) => Ok(v),
             Err(f) => Err(f.raised()),
         }
-    }
-}
-
-fn plus(o: Point, p: Point) -> Point
-    ensures answer { result ≡ plus_capped o p }
-{
-    Point {
-        x: o.x.saturating_add(p.x),
-        y: o.y.saturating_add(p.y),
-        z: o.z.saturating_add(p.z),
     }
 }

@@ -1,6 +1,6 @@
 use Rattle.std.proofs.Common.{◌≡◌, true, sym, refl, ap, ◌∙◌, subst}
-use Rattle.block.specs.Lattice.{all_allowed}
-use Rattle.block.specs.Window.{shown, plus_capped, window_declined}
+use Rattle.block.specs.Lattice.{all_allowed, plus_capped}
+use Rattle.block.specs.Window.{shown, window_declined}
 use Rattle.block.proofs.Windows.{three_from, too_large, let_through, uncapped}
 use Rattle.block.proofs.window.Window.new.Goals as goal
 
