@@ -5,3 +5,4 @@ pub mod Edges
 pub mod Centres
 pub mod Joints
 pub mod Following
+pub mod Reading

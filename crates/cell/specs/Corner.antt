@@ -1,11 +1,12 @@
 -- What is read at a corner of a cell.
-use Rattle.std.specs.Prelude.{cond, List, [], ◌∷◌, ℤ, pos, Some, None, Ok, Err, Option, Result}
+use Rattle.std.specs.Prelude.{◌≡◌, cond, List, [], ◌∷◌, map, ℤ, pos, Some, None, Ok, Err, Option, Result}
 use Rattle.block.specs.Block.{Block}
 use Rattle.block.specs.Refusals.{Told, told}
 use Rattle.block.specs.declared.fault.Fault.{Fault}
 use Rattle.block.specs.declared.lattice.Point.{Point}
 use Rattle.block.specs.declared.refusal.Refusal.TheVariants.{Faulty, OnLevel}
 use Rattle.cell.specs.Level.{height, on_level}
+use Rattle.cell.specs.declared.level.Height.{Height}
 use Rattle.cell.specs.declared.level.Level.{Level}
 
 abbrev pub height_above : Level → ℤ → ℤ
@@ -31,3 +32,7 @@ corner_height b l at = answer_height l (b.at at)
 abbrev pub corners_declined : Block → Level → List Point → Option Told
 corners_declined b l [] = None
 corners_declined b l (p ∷ ps) = elim (corner_declined b l p) [ Some t ↦ Some t | None ↦ corners_declined b l ps ]
+
+-- heights that stand at points
+abbrev pub HeightsAt : Block → Level → List Point → List Height → Type 0
+HeightsAt b l ps hs = map (λ h. h.value) hs ≡ map (corner_height b l) ps

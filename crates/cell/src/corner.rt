@@ -1,7 +1,7 @@
-// The height at one corner of a cell.
+// The heights at the corners of a cell.
 ghost use Rattle.std.specs.Prelude.{◌≡◌};
 ghost use Rattle.block.specs.Refusals.{Outcome};
-ghost use Rattle.cell.specs.Corner.{corner_declined, corner_height};
+ghost use Rattle.cell.specs.Corner.{corner_declined, corner_height, corners_declined, HeightsAt};
 
 use crate::level::{Height, Level};
 use block::lattice::Point;
@@ -21,4 +21,19 @@ pub fn height_at<S: Source>(source: &S, level: Level, at: Point) -> Result<Heigh
         return Err(Refusal::OnLevel(at));
     }
     Ok(height)
+}
+
+// The heights at the corners of a cell, each read once, in order; the first that answers a fault or meets the level decides.
+pub fn heights_at<S: Source, const N: usize>(
+    source: &S,
+    level: Level,
+    corners: &[Point; N],
+) -> Result<[Height; N], Refusal>
+    ensures answer { Outcome (corners_declined (S.Source.block source.now) level corners.now) (HeightsAt (S.Source.block source.now) level corners.now) result }
+{
+    let mut heights = [Height::level(); N];
+    for (i, corner) in corners.iter().enumerate() {
+        heights[i] = height_at(source, level, *corner)?;
+    }
+    Ok(heights)
 }

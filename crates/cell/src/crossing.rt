@@ -12,36 +12,49 @@ pub struct Offset {
     pub denominator: u32,
 }
 
-// The crossing of an edge, from the heights at its lower and its upper end, or nothing if the edge has none.
-pub fn crossing(low: Height, high: Height) -> Option<Offset>
-    ensures answer { result ≡ crossing_of low.value high.value }
-{
-    if are_opposite(low, high) {
-        Some(along_edge(low, high))
-    } else {
-        None
-    }
+// A lattice edge, by the heights at its lower and its upper end.
+#[derive(Clone, Copy)]
+pub struct Edge {
+    pub low: Height,
+    pub high: Height,
 }
 
-// Where an edge that has a crossing has it.
-pub fn along_edge(low: Height, high: Height) -> Offset
-    ensures answer { result ≡ along_edge low.value high.value }
-{
-    let size_low = low.value().unsigned_abs();
-    let size_high = high.value().unsigned_abs();
-    Offset {
-        numerator: size_low,
-        denominator: size_low + size_high,
+impl Edge {
+    pub(crate) fn new(low: Height, high: Height) -> Edge
+        ensures answer { (result.low ≡ low) × (result.high ≡ high) }
+    {
+        Edge { low, high }
     }
-}
 
-// Whether one height is above the level and the other below it.
-pub(crate) fn are_opposite(one: Height, other: Height) -> bool
-    ensures answer { result ≡ opposite (sign one.value) (sign other.value) }
-{
-    if one.value() < 0 {
-        other.value() > 0
-    } else {
-        one.value() > 0 && other.value() < 0
+    // Whether the edge has a crossing: one end is above the level and the other below it.
+    pub fn is_crossed(&self) -> bool
+        ensures answer { result ≡ opposite (sign self.now.low.value) (sign self.now.high.value) }
+    {
+        if self.low.value() < 0 {
+            self.high.value() > 0
+        } else {
+            self.low.value() > 0 && self.high.value() < 0
+        }
+    }
+
+    // The crossing, or nothing if the edge has none.
+    pub fn crossing(&self) -> Option<Offset>
+        ensures answer { result ≡ crossing_of self.now.low.value self.now.high.value }
+    {
+        if self.is_crossed() {
+            Some(self.offset())
+        } else {
+            None
+        }
+    }
+
+    // Where an edge that has a crossing has it.
+    pub fn offset(&self) -> Offset
+        ensures answer { result ≡ along_edge self.now.low.value self.now.high.value }
+    {
+        Offset {
+            numerator: self.low.size(),
+            denominator: self.low.size() + self.high.size(),
+        }
     }
 }

@@ -4,10 +4,10 @@ ghost use Rattle.std.specs.List.{slice_get};
 ghost use Rattle.cell.specs.Level.{sign};
 ghost use Rattle.cell.specs.Face.{Δ, join, joined_by_Δ, crossed_edges, face_segments, meets_level, face_rule, has_centre, centre_offsets, centre_of_face, crossing_at};
 ghost use Rattle.cell.specs.Cuts.{segments_in, segments_of};
-ghost use Rattle.cell.specs.Corners.{at_corners};
+ghost use Rattle.cell.specs.Corners.{at_corners, edges_of};
 ghost use Rattle.cell.specs.Interpolant.{Interpolated};
 
-use crate::crossing::{Offset, are_opposite, crossing};
+use crate::crossing::{Edge, Offset};
 use crate::level::Height;
 
 // A vertex of a face. P0 is the crossing where the first coordinate is 0, P1 where it is 1, P2 where the second coordinate is 0, P3 where it is 1; C is the centre.
@@ -119,11 +119,10 @@ impl Face {
     pub fn centre_offsets(&self) -> Centre
         ensures answer { result ≡ at_corners centre_offsets self.now }
     {
-        let size00 = self.g00.value().unsigned_abs();
-        let size10 = self.g10.value().unsigned_abs();
-        let size01 = self.g01.value().unsigned_abs();
-        let size11 = self.g11.value().unsigned_abs();
-        let denominator = size00 + size10 + size01 + size11;
+        let size00 = self.g00.size();
+        let size10 = self.g10.size();
+        let size01 = self.g01.size();
+        let denominator = size00 + size10 + size01 + self.g11.size();
         Centre {
             first: Offset {
                 numerator: size00 + size01,
@@ -136,15 +135,28 @@ impl Face {
         }
     }
 
+    // The edges that the points P0, P1, P2 and P3 are on.
+    pub fn edges(&self) -> [Edge; 4]
+        ensures answer { result ≡ edges_of self.now }
+    {
+        [
+            Edge::new(self.g00, self.g01),
+            Edge::new(self.g10, self.g11),
+            Edge::new(self.g00, self.g10),
+            Edge::new(self.g01, self.g11),
+        ]
+    }
+
     // The offset of a crossing along its edge, or nothing if the edge has none; the centre is on no edge.
     pub fn crossing(&self, at: FacePoint) -> Option<Offset>
         ensures answer { result ≡ at_corners crossing_at self.now at }
     {
+        let [p0, p1, p2, p3] = self.edges();
         match at {
-            FacePoint::P0 => crossing(self.g00, self.g01),
-            FacePoint::P1 => crossing(self.g10, self.g11),
-            FacePoint::P2 => crossing(self.g00, self.g10),
-            FacePoint::P3 => crossing(self.g01, self.g11),
+            FacePoint::P0 => p0.crossing(),
+            FacePoint::P1 => p1.crossing(),
+            FacePoint::P2 => p2.crossing(),
+            FacePoint::P3 => p3.crossing(),
             FacePoint::C => None,
         }
     }
@@ -153,10 +165,7 @@ impl Face {
     fn joined(&self) -> Cut
         ensures answer { segments_in result ≡ at_corners face_segments self.now }
     {
-        let p0 = are_opposite(self.g00, self.g01);
-        let p1 = are_opposite(self.g10, self.g11);
-        let p2 = are_opposite(self.g00, self.g10);
-        let p3 = are_opposite(self.g01, self.g11);
+        let [p0, p1, p2, p3] = self.edges().map(|edge| edge.is_crossed());
         join_crossings(p0, p1, p2, p3, self.delta())
     }
 
@@ -174,10 +183,11 @@ impl Face {
     fn has_centre(&self) -> bool
         ensures answer { result ≡ at_corners has_centre self.now }
     {
-        are_opposite(self.g00, self.g01)
-            && are_opposite(self.g10, self.g11)
-            && are_opposite(self.g00, self.g10)
-            && are_opposite(self.g01, self.g11)
+        let [p0, p1, p2, p3] = self.edges();
+        p0.is_crossed()
+            && p1.is_crossed()
+            && p2.is_crossed()
+            && p3.is_crossed()
             && self.delta() == 0
     }
 }

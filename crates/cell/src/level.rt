@@ -62,10 +62,23 @@ impl Level {
 }
 
 impl Height {
+    // That of a point which the level meets.
+    pub(crate) fn level() -> Height {
+        Height { value: 0 }
+    }
+
     pub fn value(&self) -> i32
         ensures answer { result ≡ self.now.value }
     {
         self.value
+    }
+
+    // How far the point is from the level, on either side of it.
+    pub(crate) fn size(&self) -> u32
+        ensures answer { result ≡ unsigned_abs self.now.value }
+        ensures small { result ≤ 2 ^ 25 }
+    {
+        i32::unsigned_abs(self.value)
     }
 
     // Whether the level meets the point.

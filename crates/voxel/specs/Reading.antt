@@ -12,10 +12,6 @@ use Rattle.voxel_theory.specs.Voxel.{next}
 abbrev pub four : Point → List Point
 four p = p ∷ next X p ∷ next Y p ∷ next X (next Y p) ∷ []
 
--- heights that stand at points
-abbrev pub HeightsAt : Block → Level → List Point → List Height → Type 0
-HeightsAt b l ps hs = map (λ h. h.value) hs ≡ map (corner_height b l) ps
-
 -- a point whose next coordinates fit
 pub record Near (p : Point) : Type 0 where
   pub x : p.x + 1 < 2 ^ 32
