@@ -15,6 +15,7 @@ pub record ReadTo (b : Block) (l : Level) (ps : List Point) (hs : List Height) (
 
 pub all_read : (b : Block) (l : Level) (ps : List Point) (hs : List Height) (i : ℕ) → length ps ≤ i → ReadTo b l ps hs i
     → (corners_declined b l ps ≡ None) × HeightsAt b l ps hs
-all_read b l ps hs i last r =
-    (r.passed ∙ ap (corners_declined b l) (drop_all i ps last),
-    rw (take_all i hs (subst (λ n. n ≤ i) (sym r.room) last), take_all i ps last) at r.stand)
+all_read b l ps hs i last r = (
+  r.passed ∙ ap (corners_declined b l) (drop_all i ps last),
+  rw (take_all i hs (subst (λ n. n ≤ i) (sym r.room) last), take_all i ps last) at r.stand,
+)

@@ -6,11 +6,20 @@ use Rattle.cell.specs.declared.crossing.Offset.{Offset}
 use Rattle.cell.specs.declared.vertex.Axis.{Axis}
 use Rattle.cell.specs.declared.vertex.Axis.TheVariants.{X, Y, Z}
 use Rattle.cell.specs.declared.vertex.Form.TheVariants.{Edge, Face}
+use Rattle.cell.specs.declared.vertex.Place.{Place}
 use Rattle.cell.specs.declared.vertex.Vertex.{Vertex}
 
 -- an axis without an offset has 0/0
 abbrev pub no_offset : Offset
 no_offset = offset 0 0
+
+-- the place of the crossing of an edge, by its axis and its lower end
+abbrev pub edge_place : Axis → Point → Place
+edge_place a p = record { form = Some Edge; axis = Some a; point = p }
+
+-- the place of the centre of a face, by its normal axis and its lowest corner
+abbrev pub face_place : Axis → Point → Place
+face_place a p = record { form = Some Face; axis = Some a; point = p }
 
 -- the crossing of the edge along an axis from a point, at an offset from there
 abbrev pub on_edge : Axis → Point → Offset → Vertex

@@ -1,9 +1,10 @@
 // How the level cuts a unit face of the lattice.
 ghost use Rattle.std.specs.Prelude.{◌≡◌, ◌^◌, ◌≤◌, true, length, ◌*ℤ◌, MatchOption, unsigned_abs};
+ghost use Rattle.std.specs.Iterator.{YieldsFirst, item_count};
 ghost use Rattle.std.specs.List.{slice_get};
 ghost use Rattle.cell.specs.Level.{sign};
 ghost use Rattle.cell.specs.Face.{Δ, join, joined_by_Δ, crossed_edges, face_segments, meets_level, face_rule, has_centre, centre_offsets, centre_of_face, crossing_at};
-ghost use Rattle.cell.specs.Cuts.{segments_in, segments_of};
+ghost use Rattle.cell.specs.Cuts.{segments_in, segments_left, segments_of};
 ghost use Rattle.cell.specs.Corners.{at_corners, edges_of};
 ghost use Rattle.cell.specs.Interpolant.{Interpolated};
 
@@ -49,6 +50,15 @@ impl Cut {
         }
     }
 
+    pub fn segments(&self) -> Segments
+        ensures answer { segments_left result ≡ segments_in self.now }
+    {
+        Segments {
+            cut: *self,
+            next: 0,
+        }
+    }
+
     // The segment at a place, counted from 0, or nothing past the last.
     pub fn segment(&self, n: usize) -> Option<(FacePoint, FacePoint)>
         ensures answer { result ≡ slice_get (segments_in self.now) n }
@@ -65,6 +75,27 @@ impl Cut {
             (Cut::Star, 3) => Some((FacePoint::P3, FacePoint::C)),
             _ => None,
         }
+    }
+}
+
+// The segments of a cut that are still to come, in order.
+#[derive(Clone, Copy)]
+pub struct Segments {
+    cut: Cut,
+    next: usize,
+}
+
+impl Iterator for Segments {
+    type Item = (FacePoint, FacePoint);
+
+    ghost next_gives = { YieldsFirst segments_left };
+
+    ghost remaining = { item_count segments_left };
+
+    fn next(&mut self) -> Option<(FacePoint, FacePoint)> {
+        let segment = self.cut.segment(self.next)?;
+        self.next += 1;
+        Some(segment)
     }
 }
 

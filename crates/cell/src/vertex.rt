@@ -1,6 +1,6 @@
 // A vertex of a contour or a shell, and its exact coordinates.
 ghost use Rattle.std.specs.Prelude.{◌≡◌, Some};
-ghost use Rattle.cell.specs.Vertex.{coordinates, coordinate, no_vertex, on_edge, in_face};
+ghost use Rattle.cell.specs.Vertex.{coordinates, coordinate, edge_place, face_place, in_face, no_offset, no_vertex, on_edge};
 
 use crate::crossing::Offset;
 use block::lattice::Point;
@@ -28,7 +28,7 @@ pub struct Place {
     pub point: Point,
 }
 
-// A vertex lies at its lowest point plus an offset along each axis that has one; the others have 0/0.
+// A vertex lies at its lowest point plus an offset along each axis that has one. The others have 0/0, and no `Option`: a slot's unused fields are zero.
 #[derive(Clone, Copy)]
 pub struct Vertex {
     pub place: Place,
@@ -49,46 +49,30 @@ impl Vertex {
         ensures answer { result ≡ no_vertex }
     {
         let point = Point { x: 0, y: 0, z: 0 };
-        let place = Place {
+        Vertex::at(Place {
             form: None,
             axis: None,
             point,
-        };
-        Vertex {
-            place,
-            x: NONE,
-            y: NONE,
-            z: NONE,
-        }
+        })
     }
 
     // The crossing of the edge along `axis` from `point`, at an offset from there.
     pub fn on_edge(axis: Axis, point: Point, offset: Offset) -> Vertex
         ensures answer { result ≡ on_edge axis point offset }
     {
-        let place = Place {
-            form: Some(Form::Edge),
-            axis: Some(axis),
-            point,
-        };
+        let vertex = Vertex::at(Place::on_edge(axis, point));
         match axis {
             Axis::X => Vertex {
-                place,
                 x: offset,
-                y: NONE,
-                z: NONE,
+                ..vertex
             },
             Axis::Y => Vertex {
-                place,
-                x: NONE,
                 y: offset,
-                z: NONE,
+                ..vertex
             },
             Axis::Z => Vertex {
-                place,
-                x: NONE,
-                y: NONE,
                 z: offset,
+                ..vertex
             },
         }
     }
@@ -97,30 +81,59 @@ impl Vertex {
     pub fn in_face(axis: Axis, point: Point, first: Offset, second: Offset) -> Vertex
         ensures answer { result ≡ in_face axis point first second }
     {
-        let place = Place {
+        let vertex = Vertex::at(Place::in_face(axis, point));
+        match axis {
+            Axis::X => Vertex {
+                y: first,
+                z: second,
+                ..vertex
+            },
+            Axis::Y => Vertex {
+                x: first,
+                z: second,
+                ..vertex
+            },
+            Axis::Z => Vertex {
+                x: first,
+                y: second,
+                ..vertex
+            },
+        }
+    }
+
+    // A vertex with no offsets.
+    fn at(place: Place) -> Vertex
+        ensures answer { result ≡ record { place = place; x = no_offset; y = no_offset; z = no_offset } }
+    {
+        Vertex {
+            place,
+            x: NONE,
+            y: NONE,
+            z: NONE,
+        }
+    }
+}
+
+impl Place {
+    // That of the crossing of an edge.
+    pub fn on_edge(axis: Axis, point: Point) -> Place
+        ensures answer { result ≡ edge_place axis point }
+    {
+        Place {
+            form: Some(Form::Edge),
+            axis: Some(axis),
+            point,
+        }
+    }
+
+    // That of the centre of a face.
+    pub fn in_face(axis: Axis, point: Point) -> Place
+        ensures answer { result ≡ face_place axis point }
+    {
+        Place {
             form: Some(Form::Face),
             axis: Some(axis),
             point,
-        };
-        match axis {
-            Axis::X => Vertex {
-                place,
-                x: NONE,
-                y: first,
-                z: second,
-            },
-            Axis::Y => Vertex {
-                place,
-                x: first,
-                y: NONE,
-                z: second,
-            },
-            Axis::Z => Vertex {
-                place,
-                x: first,
-                y: second,
-                z: NONE,
-            },
         }
     }
 }
