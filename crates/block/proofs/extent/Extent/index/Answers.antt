@@ -1,20 +1,21 @@
-use Rattle.std.proofs.Common.{ap, arith, rules}
-use Rattle.block.specs.Lattice.{index}
-use Rattle.block.proofs.Storage.{index_most}
+use Rattle.std.proofs.Common.{arith}
+use Rattle.block.proofs.Storage.{index_below, index_small}
 use Rattle.block.proofs.extent.Extent.index.Goals as goal
 
 pub overflow_mul-result-2 : goal.overflow_mul-result-2
 overflow_mul-result-2 c =
-    let small = index_most c.args.self.now c.sizes-n.result c.args.p c.sizes-n.ensures.answer (search rules) (search rules) (search rules) in
+    let e = c.args.self.now in
+    let small = index_small e.sizes c.args.p e.allowed c.requires in
     record { fits = omega arith }
 
 pub overflow_add-result-2 : goal.overflow_add-result-2
 overflow_add-result-2 c =
-    let small = index_most c.args.self.now c.sizes-n.result c.args.p c.sizes-n.ensures.answer (search rules) (search rules) (search rules) in
+    let e = c.args.self.now in
+    let small = index_small e.sizes c.args.p e.allowed c.requires in
     record { fits = omega arith }
 
-pub returns : goal.returns
-returns c = record {
-  answer = ap (λ n. index n c.args.p) c.sizes-n.ensures.answer;
-  small = index_most c.args.self.now c.sizes-n.result c.args.p c.sizes-n.ensures.answer (search rules) (search rules) (search rules);
-}
+pub returns-clause-below : goal.returns-clause-below
+returns-clause-below c = index_below c.args.self.now.sizes c.args.p c.requires
+
+pub returns-clause-small : goal.returns-clause-small
+returns-clause-small c = let e = c.args.self.now in index_small e.sizes c.args.p e.allowed c.requires

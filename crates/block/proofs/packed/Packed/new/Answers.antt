@@ -10,7 +10,7 @@ returns-in_err-check c =
     let d = c.decode-header.ensures in
     let bytes = c.args.bytes.now in
     let long : 5 ≤ length bytes = search rules in
-    let declined = sym (declined_is bytes (sizes_of h.extent) h.width_less_one h.spare long d.sizes d.width.0 d.spare) ∙ c.in_err-check.ensures.answer in
+    let declined = sym (declined_is bytes (sizes_of h.extent) h.width h.spare long d.sizes d.width d.spare) ∙ c.in_err-check.ensures.answer in
     let p = err_from_is_err_and c.from_residual.result c.from_residual.ensures.1 in
     rw (p.1, p.2) (record { answer = declined })
 
@@ -20,5 +20,5 @@ returns c =
     let d = c.decode-header.ensures in
     let bytes = c.args.bytes.now in
     let long : 5 ≤ length bytes = search rules in
-    let declined = sym (declined_is bytes (sizes_of h.extent) h.width_less_one h.spare long d.sizes d.width.0 d.spare) ∙ c.in_ok-check.ensures.answer.0 in
-    record { answer = (declined, block_is bytes (sizes_of h.extent) h.width_less_one h.spare long d.sizes d.width.0 d.spare d.width.1) }
+    let declined = sym (declined_is bytes (sizes_of h.extent) h.width h.spare long d.sizes d.width d.spare) ∙ c.in_ok-check.ensures.answer.0 in
+    record { answer = (declined, block_is bytes (sizes_of h.extent) h.width h.spare long d.sizes d.width d.spare) }
