@@ -1,30 +1,28 @@
 -- Where samples stand in storage order, and how many there are.
-use Rattle.std.proofs.Common.{◌≡◌, ℕ, ◌+◌, ◌*◌, ◌^◌, ◌<◌, ◌≤◌, true, ◌&&◌, leb, ltb, arith}
+use Rattle.std.proofs.Common.{◌≡◌, ℕ, ◌+◌, ◌*◌, ◌^◌, ◌<◌, ◌≤◌, Bool, true, ◌&&◌, leb, ltb, arith}
 use Rattle.std.proofs.lemmas.Nat.{mul-le, mul-add-lt}
 use Rattle.std.proofs.lemmas.Bool.{and_parts, leb-true, ltb-true}
 use Rattle.block.specs.Lattice.{allowed, all_allowed, inside, count, index}
 use Rattle.block.specs.declared.lattice.Point.{Point}
 use Rattle.block.specs.declared.lattice.Sizes.{Sizes}
 
+-- three tests at once
+pub all_three : (a b c : Bool) → (a && b && c) ≡ true → (a ≡ true) × (b ≡ true) × (c ≡ true)
+all_three a b c h = let p = and_parts (a && b) c h in let q = and_parts a b p.0 in (q.0, q.1, p.1)
+
 pub inside_parts : (n : Sizes) (p : Point) → inside n p ≡ true → (p.x < n.x) × (p.y < n.y) × (p.z < n.z)
 inside_parts n p h =
-    let xy_z = and_parts (ltb p.x n.x && ltb p.y n.y) _ h in
-    let x_y = and_parts (ltb p.x n.x) _ xy_z.0 in
-    (ltb-true _ _ x_y.0, ltb-true _ _ x_y.1, ltb-true _ _ xy_z.1)
+    let t = all_three (ltb p.x n.x) (ltb p.y n.y) (ltb p.z n.z) h in
+    (ltb-true _ _ t.0, ltb-true _ _ t.1, ltb-true _ _ t.2)
 
-allowed_most : (n : ℕ) → allowed n ≡ true → n ≤ 1024
-allowed_most n h = leb-true n 1024 (and_parts (leb 1 n) (leb n 1024) h).1
-
-sizes_most : (n : Sizes) → all_allowed n ≡ true → (n.x ≤ 1024) × (n.y ≤ 1024) × (n.z ≤ 1024)
-sizes_most n h =
-    let p = and_parts (allowed n.x && allowed n.y) (allowed n.z) h in
-    let q = and_parts (allowed n.x) (allowed n.y) p.0 in
-    (allowed_most n.x q.0, allowed_most n.y q.1, allowed_most n.z p.1)
+pub allowed_parts : (n : ℕ) → allowed n ≡ true → (1 ≤ n) × (n ≤ 1024)
+allowed_parts n h = let p = and_parts (leb 1 n) (leb n 1024) h in (leb-true 1 n p.0, leb-true n 1024 p.1)
 
 pub count_most : (n : Sizes) → all_allowed n ≡ true → count n ≤ 2 ^ 30
 count_most n h =
-    let most = sizes_most n h in
-    mul-le n.x (n.y * n.z) 1024 1048576 most.0 (mul-le n.y n.z 1024 1024 most.1 most.2)
+    let t = all_three (allowed n.x) (allowed n.y) (allowed n.z) h in
+    let layer = mul-le n.y n.z 1024 1024 (allowed_parts n.y t.1).1 (allowed_parts n.z t.2).1 in
+    mul-le n.x (n.y * n.z) 1024 1048576 (allowed_parts n.x t.0).1 layer
 
 -- a point inside is one of as many as there are
 pub index_below : (n : Sizes) (p : Point) → inside n p ≡ true → index n p < count n
