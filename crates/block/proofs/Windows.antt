@@ -1,5 +1,5 @@
 -- A window that is let through: its sizes are in their limits, and no point of it has a coordinate too large.
-use Rattle.std.proofs.Common.{◌≡◌, ℕ, ◌+◌, ◌<◌, ◌≤◌, min, Bool, true, cond, ◌&&◌, leb, None, Err, sym, ap, ◌∙◌, subst, ⊎_elim, arith}
+use Rattle.std.proofs.Common.{◌≡◌, ℕ, ◌+◌, ◌<◌, ◌≤◌, min, true, cond, leb, None, Err, sym, ap, ◌∙◌, subst, ⊎_elim, arith}
 use Rattle.std.proofs.lemmas.Bool.{and_parts, and_from, leb-true, le-leb, cond-true, cond-false, cases_Bool}
 use Rattle.block.specs.Block.{Block, WellFormed}
 use Rattle.block.specs.Faults.{fresh}
