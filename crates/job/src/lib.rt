@@ -82,7 +82,7 @@ impl Header {
     }
 }
 
-// A number of 26 bits in two's complement.
+// A number of 26 bits in two's complement. No type has so many bits, so the sign is taken off by hand.
 fn signed(n: u32) -> i32
     requires { n < 2 ^ 26 }
     ensures answer { result ≡ twos_complement 26 n }
