@@ -1,4 +1,3 @@
 pub mod Fields
-pub mod Headers
 pub mod Storage
 pub mod Windows
