@@ -1,30 +1,22 @@
-use Rattle.std.proofs.Common.{◌≡◌, true, ap, ◌∙◌, rules}
-use Rattle.block.specs.Lattice.{all_allowed}
-use Rattle.block.specs.Window.{shown, plus_capped}
-use Rattle.block.proofs.Windows.{sizes_allowed, let_through, uncapped}
+use Rattle.std.proofs.Common.{◌≡◌, None, ap, ◌∙◌, arith}
+use Rattle.std.proofs.lemmas.Bool.Decides.{nat_tests}
+use Rattle.block.specs.Window.{shown, plus_capped, window_declined}
+use Rattle.block.proofs.Windows.{uncapped}
 use Rattle.block.proofs.window.Window.new.Goals as goal
 
 pub unwrap-requires : goal.unwrap-requires
-unwrap-requires g c =
-    let allowed : all_allowed c.args.sizes ≡ true =
-    sizes_allowed _ (g.S.Source.formed c.args.below) c.args.origin _ _ c.sizes-n.ensures.answer
-    c.if-not-reaches.ensures.answer c.if-not-reaches-2.ensures.answer c.if-not-reaches-3.ensures.answer in
-    search rules
+unwrap-requires g c = let few = (g.S.Source.formed c.args.below).sizes_allowed in grind (arith, nat_tests)
 
 pub returns : goal.returns
 returns g c =
     let below = g.S.Source.block c.args.below in
-    let formed = g.S.Source.formed c.args.below in
     let o = c.args.origin in
     let n = c.args.sizes in
-    let m_is = c.sizes-n.ensures.answer in
-    let x = c.if-not-reaches.ensures.answer in
-    let y = c.if-not-reaches-2.ensures.answer in
-    let z = c.if-not-reaches-3.ensures.answer in
+    let let_through : window_declined below.sizes o n ≡ None = grind (arith, nat_tests) in
     let made = rw c.unwrap.ensures at c.new.ensures.answer in
     record {
       answer = (
-        let_through below formed o n _ m_is x y z,
-        ap (shown (plus_capped o) below) made.1 ∙ uncapped below formed o n _ m_is x y z,
+        let_through,
+        ap (shown (plus_capped o) below) made.1 ∙ uncapped below (g.S.Source.formed c.args.below) o n let_through,
       );
     }
