@@ -28,15 +28,20 @@ fn word(bytes: &[u8], at: usize) -> u64
     requires { at < 2 ^ 62 }
     ensures answer { result ≡ number_of (five bytes.now at) }
 {
-    let mut w = u64::from(byte(bytes, at));
-    w = w * 256 + u64::from(byte(bytes, at + 1));
-    w = w * 256 + u64::from(byte(bytes, at + 2));
-    w = w * 256 + u64::from(byte(bytes, at + 3));
-    w * 256 + u64::from(byte(bytes, at + 4))
+    u64::from_be_bytes([
+        0,
+        0,
+        0,
+        byte(bytes, at),
+        byte(bytes, at + 1),
+        byte(bytes, at + 2),
+        byte(bytes, at + 3),
+        byte(bytes, at + 4),
+    ])
 }
 
 fn byte(bytes: &[u8], at: usize) -> u8
     ensures answer { result ≡ slice_index bytes.now at }
 {
-    if at < bytes.len() { bytes[at] } else { 0 }
+    bytes.get(at).copied().unwrap_or(0)
 }

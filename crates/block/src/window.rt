@@ -31,12 +31,6 @@ impl<S: Source> Window<S> {
             × (window_told S.Source.block w ≡ window_block origin (S.Source.block below) sizes))
             (λ e. (window_declined (S.Source.block below).sizes origin sizes ≡ Some (told e.refusal)) × (e.below ≡ below)) }
     {
-        let Some(extent) = Extent::new(sizes) else {
-            return Err(NoWindow {
-                refusal: Refusal::Window,
-                below,
-            });
-        };
         let n = below.sizes();
         if !reaches(origin.x, sizes.x, n.x)
             || !reaches(origin.y, sizes.y, n.y)
@@ -50,7 +44,8 @@ impl<S: Source> Window<S> {
         Ok(Window {
             below,
             origin,
-            extent,
+            // Sizes within those of a block are in its limits.
+            extent: Extent::new(sizes).unwrap(),
         })
     }
 }
@@ -75,9 +70,8 @@ impl<S: Source> Source for Window<S> {
         if !self.extent.contains(p) {
             return Err(Fault::new(Cause::Outside, p));
         }
-        match self.below.sample(self.origin.plus(p)) {
-            Ok(v) => Ok(v),
-            Err(f) => Err(f.raised()),
-        }
+        self.below
+            .sample(self.origin.plus(p))
+            .map_err(Fault::raised)
     }
 }
