@@ -1,6 +1,6 @@
 -- What holds of a set of segments before its clipping, and of the triangles afterwards.
 use Rattle.std.specs.Prelude.{◌≡◌, ℕ, ◌+◌, ◌%◌, ◌<◌, ◌≤◌, Bool, true, cond, not, ◌&&◌, ◌||◌, ◌≢◌, ◌⊎◌, ◌↔◌, List, [], length, ℤ, count_by, ◌==◌}
-use Rattle.std.specs.List.{AllByRecursion}
+use Rattle.std.specs.List.{All}
 use Rattle.clipping.specs.Faces.{Segment, corner, x_edge, y_edge, z_edge, across_x, across_y, across_z, local_vertices, Off, crossed, centred, voxel_segments}
 use Rattle.clipping.specs.Clip.{Triangle, degree, joins, linked, strike, lowest, neighbour, apex, left, triangles}
 
@@ -34,7 +34,7 @@ Proper t = (t.0 ≢ t.1) × (t.0 ≢ t.2) × (t.1 < t.2) × (t.0 < local_vertice
 -- What the triangles are to the segments: two vertices lie together on an odd number of triangles exactly when they are joined, the triangles name the vertices of the segments, and there are two fewer triangles than segments or still less.
 pub record Filled (ss : List Segment) (ts : List Triangle) : Type 0 where
   pub parity : (u v : ℕ) → u ≢ v → (shared ts u v % 2 ≡ 1) ↔ (linked ss u v ≡ true)
-  pub proper : AllByRecursion Proper ts
+  pub proper : All Proper ts
   pub named : (v : ℕ) → (0 < uses ts v) ↔ (0 < degree ss v)
   pub few : 0 < length ss → length ts + 2 ≤ length ss
 

@@ -1,6 +1,7 @@
 -- The places of a pixel's points, told apart, and the heights of a pixel that can be read.
 use Rattle.std.proofs.Common.{◌≡◌, ℕ, ◌+◌, true, false, ◌&&◌, eqb, sym, refl, ap, ◌∙◌, arith}
 use Rattle.std.proofs.lemmas.Bool.{eq-eqb, ne_eqb, or_from}
+use Rattle.std.proofs.lemmas.List.Elements.{recursion_from_All}
 use Rattle.block.specs.Block.{Block}
 use Rattle.block.specs.declared.lattice.Point.{Point}
 use Rattle.cell.specs.Face.{meets_level}
@@ -10,7 +11,7 @@ use Rattle.cell.specs.declared.face.FacePoint.TheVariants.{P0, P1, P2, P3, C}
 use Rattle.cell.specs.declared.level.Level.{Level}
 use Rattle.kind.specs.Meaning.{same_place, Readable}
 use Rattle.kind.proofs.Places.{same_point_self, same_place_decides}
-use Rattle.kind.proofs.Reading.{all_off}
+use Rattle.kind.proofs.Reading.{IsOff, all_off}
 use Rattle.pixel_theory.specs.Kind.{pixel, place_of}
 use Rattle.pixel_theory.specs.Pixel.{at_pixel, pixel_corners, next_x, next_y}
 
@@ -59,5 +60,5 @@ module _ (c : Point) where
 -- a pixel that can be read meets the level at no corner
 pub reads_off : (b : Block) (l : Level) (c : Point) → Readable pixel b l c → at_pixel meets_level b l c ≡ false
 reads_off b l c r =
-    let off = all_off b l (pixel_corners c) r.reads in
+    let off = recursion_from_All (IsOff b l) (pixel_corners c) (all_off b l (pixel_corners c) r.reads) in
     or_from _ _ off.0 (or_from _ _ off.1.0 (or_from _ _ off.1.1.0 off.1.1.1.0))
