@@ -1,5 +1,5 @@
 -- What a kind of cell means, and the laws that every kind shows.
-use Rattle.std.specs.Prelude.{◌≡◌, ℕ, suc, ◌%◌, Bool, true, false, cond, ◌&&◌, ◌||◌, ◌⊎◌, ◌↔◌, List, [], ◌∷◌, map, length, Some, None, count_by, Option, ◌==◌}
+use Rattle.std.specs.Prelude.{◌≡◌, ℕ, suc, ◌%◌, Bool, true, false, if◌then◌else◌, ◌&&◌, ◌||◌, ◌⊎◌, ◌↔◌, List, [], ◌∷◌, map, length, Some, None, count_by, Option, ◌==◌}
 use Rattle.std.specs.List.{Contains}
 use Rattle.block.specs.Block.{Block}
 use Rattle.block.specs.Refusals.{Told, told}
@@ -110,7 +110,7 @@ module _ (m : Meaning) (b : Block) (l : Level) where
 
 -- why a position is not read, if it is not
 abbrev pub cell_declined : Meaning → Block → Level → Point → Option Told
-cell_declined m b l c = cond (m.cell b.sizes c) (corners_declined b l (m.corners c)) (Some (told NoCell))
+cell_declined m b l c = if m.cell b.sizes c then corners_declined b l (m.corners c) else Some (told NoCell)
 
 -- The laws speak of cells that can be read. That a side's cuts depend on nothing but block, level and side stands in the type of `cuts`.
 pub record Laws (m : Meaning) : Type 0 where

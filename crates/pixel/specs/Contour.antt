@@ -1,5 +1,5 @@
 -- What is held of a pixel that was read.
-use Rattle.std.specs.Prelude.{◌≡◌, ℕ, zero, suc, Bool, false, cond, List, [], ◌∷◌, length, take}
+use Rattle.std.specs.Prelude.{◌≡◌, ℕ, zero, suc, Bool, false, if◌then◌else◌, List, [], ◌∷◌, length, take}
 use Rattle.block.specs.Block.{Block}
 use Rattle.block.specs.declared.lattice.Point.{Point}
 use Rattle.cell.specs.Corner.{corner_height}
@@ -44,7 +44,7 @@ shape_parts s = take (length (segments_in s.contour.cut)) s.segments
 
 -- an edge with its crossing, if the heights at its ends have opposite signs
 abbrev pub bordering : Side → Bool → Side × List Joint
-bordering s crossed = (s, cond crossed ((edge_place s ∷ []) ∷ []) [])
+bordering s crossed = (s, if crossed then (edge_place s ∷ []) ∷ [] else [])
 
 -- the sides of a pixel that was read, with their cuts
 abbrev pub contour_borders : Contour → List (Side × List Joint)

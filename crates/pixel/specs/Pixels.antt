@@ -1,5 +1,5 @@
 -- The pixels of a block in order, and the contours of all of them.
-use Rattle.std.specs.Prelude.{ℕ, zero, suc, ◌-◌, ◌*◌, ◌/◌, ◌%◌, cond, List, [], ◌++◌, Some, None, Option, nat_lt}
+use Rattle.std.specs.Prelude.{ℕ, zero, suc, ◌-◌, ◌*◌, ◌/◌, ◌%◌, if◌then◌else◌, List, [], ◌++◌, Some, None, Option, nat_lt}
 use Rattle.block.specs.Block.{Block}
 use Rattle.block.specs.Refusals.{Told, or_else}
 use Rattle.block.specs.declared.lattice.Point.{Point}
@@ -17,7 +17,7 @@ abbrev pub pixel_numbered : Sizes → ℕ → Point
 pixel_numbered n i = record { x = i % (n.x - 1); y = i / (n.x - 1) % (n.y - 1); z = i / (n.x - 1) / (n.y - 1) }
 
 abbrev pub pixel_at : Sizes → ℕ → Option Point
-pixel_at n i = cond (nat_lt i (pixel_count n)) (Some (pixel_numbered n i)) None
+pixel_at n i = if nat_lt i (pixel_count n) then Some (pixel_numbered n i) else None
 
 -- the refusal of the first k pixels, if any: that of the first which has one
 abbrev pub contours_declined : Block → Level → ℕ → Option Told

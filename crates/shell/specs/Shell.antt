@@ -1,5 +1,5 @@
 -- The triangles of a voxel as the code holds them, from the heights at its corners.
-use Rattle.std.specs.Prelude.{◌≡◌, ℕ, ◌<◌, ◌≤◌, Bool, true, false, cond, List, map, take, ℤ, pos, Some, None, Option, nat_lt, slice_index_or}
+use Rattle.std.specs.Prelude.{◌≡◌, ℕ, ◌<◌, ◌≤◌, Bool, true, false, if◌then◌else◌, List, map, take, ℤ, pos, Some, None, Option, nat_lt, slice_index_or}
 use Rattle.cell.specs.Level.{Sign, minus, none, plus, sign, on_level}
 use Rattle.cell.specs.declared.level.Height.{Height}
 use Rattle.clipping.specs.Faces.{corner_count, local_vertices, voxel_segments}
@@ -25,7 +25,7 @@ meets_level g = nat_lt (lowest (λ k. on_level (g k)) corner_count) corner_count
 
 -- a voxel has its shell where the level meets no corner of it
 abbrev pub shell_rule : (ℕ → ℤ) → Option Local
-shell_rule g = cond (meets_level g) None (Some (shell_of g))
+shell_rule g = if meets_level g then None else Some (shell_of g)
 
 -- what the code holds
 abbrev pub named : LocalTriangle → Triangle
