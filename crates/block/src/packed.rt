@@ -106,7 +106,7 @@ impl Header {
         ensures answer { Outcome (samples_declined self.now.spare (count (sizes_of self.now.extent) * self.now.width) samples.now) (λ _. Unit {0}) result }
     {
         let used = self.extent.count() * self.width as usize;
-        if samples.len() != (used + 7) / 8 {
+        if samples.len() != used.div_ceil(8) {
             return Err(Refusal::Length);
         }
         let unused = 8 * samples.len() - used;
