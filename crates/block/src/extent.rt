@@ -62,5 +62,5 @@ impl Extent {
 fn is_allowed(n: u32) -> bool
     ensures answer { result ≡ allowed n }
 {
-    1 <= n && n <= LONGEST
+    (1..=LONGEST).contains(&n)
 }

@@ -3,7 +3,7 @@ ghost use Rattle.std.specs.Prelude.{◌≡◌, ◌*◌, ◌^◌, ◌<◌, ◌≤
 ghost use Rattle.block.specs.Bits.{field};
 ghost use Rattle.block.specs.Block.{lowest, highest};
 
-use crate::bits::bits;
+use crate::bits::{bits, cut_out};
 use crate::extent::Extent;
 use crate::fault::{Cause, Fault};
 use crate::lattice::{Point, Sizes};
@@ -65,7 +65,7 @@ fn read(samples: &[u8], width: u32, i: usize) -> i32
     ensures answer { result ≡ pos (field samples.now (i * width) width) }
     ensures range { (lowest ≤ℤ result) × (result ≤ℤ highest) }
 {
-    bits(samples, i * width as usize, width) as i32
+    cut_out(samples, i * width as usize, width) as i32
 }
 
 // The three facts of a header.
@@ -106,7 +106,7 @@ impl Header {
         ensures answer { Outcome (samples_declined self.now.spare (count (sizes_of self.now.extent) * self.now.width) samples.now) (λ _. Unit {0}) result }
     {
         let used = self.extent.count() * self.width as usize;
-        if samples.len() != (used + 7) / 8 {
+        if samples.len() != used.div_ceil(8) {
             return Err(Refusal::Length);
         }
         let unused = 8 * samples.len() - used;

@@ -22,9 +22,7 @@ impl<'a> Raster<'a> {
     pub fn new(sizes: Sizes, samples: &'a [i16]) -> Result<Raster<'a>, Refusal>
         ensures answer { Outcome (raster_declined sizes (length samples.now)) (λ s. raster_told s ≡ raster_block sizes samples.now) result }
     {
-        let Some(extent) = Extent::new(sizes) else {
-            return Err(Refusal::RasterSize);
-        };
+        let extent = Extent::new(sizes).ok_or(Refusal::RasterSize)?;
         if samples.len() != extent.count() {
             return Err(Refusal::Length);
         }

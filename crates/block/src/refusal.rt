@@ -29,6 +29,7 @@ pub enum Refusal {
 }
 
 impl Refusal {
+    // A variant that carries a value has no number of its own to be read, so all stand here.
     pub fn number(&self) -> u8
         ensures answer { result ≡ (told self.now).number }
     {

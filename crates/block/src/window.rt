@@ -50,11 +50,11 @@ impl<S: Source> Window<S> {
     }
 }
 
-// Whether a window lies within the block below, along one axis. The sum of origin and size may not fit, so it is not formed.
+// Whether a window lies within the block below, along one axis.
 fn reaches(origin: u32, size: u32, below: u32) -> bool
     ensures answer { result ≡ lies_within origin size below }
 {
-    1 <= size && size <= below && origin <= below - size
+    1 <= size && origin.checked_add(size).is_some_and(|end| end <= below)
 }
 
 impl<S: Source> Source for Window<S> {
