@@ -38,7 +38,7 @@ packed_told s = packed_block (sizes_of s.extent) s.width s.samples.now
 -- the refusal of samples that take so many bits, if any: there are no more bytes than they need, and no bit behind them is set
 abbrev pub samples_declined : ℕ → ℕ → List ℕ → Option Told
 samples_declined spare used samples =
-    if length samples == (used + 7) / 8 then if spare == 0 && field samples used (8 * length samples - used) == 0 then None else Some (plain 3)
+    if length samples == (used + 7) / 8 then (if spare == 0 && field samples used (8 * length samples - used) == 0 then None else Some (plain 3))
     else Some (plain 2)
 
 -- the refusal of a packed block, if any

@@ -28,4 +28,4 @@ raster_told s = raster_block (sizes_of s.extent) s.samples.now
 
 -- the refusal of a raster with these sizes and so many samples, if any
 abbrev pub raster_declined : Sizes → ℕ → Option Told
-raster_declined n given = if all_allowed n then if given == count n then None else Some (plain 2) else Some (plain 1)
+raster_declined n given = if all_allowed n then (if given == count n then None else Some (plain 2)) else Some (plain 1)

@@ -44,12 +44,12 @@ Clips = (ss : List Segment) → Tame ss → (left (length ss) ss ≡ []) × Fill
 
 -- On how many of a voxel's segments its local vertices lie: a crossing on two, a centre on four.
 pub record Degrees (g : ℕ → ℤ) : Type 0 where
-  pub on_x : (dy dz : ℕ) → dy < 2 → dz < 2 → degree (voxel_segments g) (x_edge dy dz) ≡ if crossed g (corner 0 dy dz) (corner 1 dy dz) then 2 else 0
-  pub on_y : (dx dz : ℕ) → dx < 2 → dz < 2 → degree (voxel_segments g) (y_edge dx dz) ≡ if crossed g (corner dx 0 dz) (corner dx 1 dz) then 2 else 0
-  pub on_z : (dx dy : ℕ) → dx < 2 → dy < 2 → degree (voxel_segments g) (z_edge dx dy) ≡ if crossed g (corner dx dy 0) (corner dx dy 1) then 2 else 0
-  pub centre_x : (s : ℕ) → s < 2 → degree (voxel_segments g) (12 + s) ≡ if centred g (across_x s) then 4 else 0
-  pub centre_y : (s : ℕ) → s < 2 → degree (voxel_segments g) (14 + s) ≡ if centred g (across_y s) then 4 else 0
-  pub centre_z : (s : ℕ) → s < 2 → degree (voxel_segments g) (16 + s) ≡ if centred g (across_z s) then 4 else 0
+  pub on_x : (dy dz : ℕ) → dy < 2 → dz < 2 → degree (voxel_segments g) (x_edge dy dz) ≡ (if crossed g (corner 0 dy dz) (corner 1 dy dz) then 2 else 0)
+  pub on_y : (dx dz : ℕ) → dx < 2 → dz < 2 → degree (voxel_segments g) (y_edge dx dz) ≡ (if crossed g (corner dx 0 dz) (corner dx 1 dz) then 2 else 0)
+  pub on_z : (dx dy : ℕ) → dx < 2 → dy < 2 → degree (voxel_segments g) (z_edge dx dy) ≡ (if crossed g (corner dx dy 0) (corner dx dy 1) then 2 else 0)
+  pub centre_x : (s : ℕ) → s < 2 → degree (voxel_segments g) (12 + s) ≡ (if centred g (across_x s) then 4 else 0)
+  pub centre_y : (s : ℕ) → s < 2 → degree (voxel_segments g) (14 + s) ≡ (if centred g (across_y s) then 4 else 0)
+  pub centre_z : (s : ℕ) → s < 2 → degree (voxel_segments g) (16 + s) ≡ (if centred g (across_z s) then 4 else 0)
 
 -- the most segments and the most triangles that a voxel has
 abbrev pub most_segments : ℕ
