@@ -15,7 +15,7 @@ use Rattle.pixel.specs.Contour.{Holds, bordering, contour_borders}
 use Rattle.pixel.specs.declared.contour.Contour.{Contour}
 
 module _ (b : Block) (l : Level) (at : Point) (k : Contour) (h : Holds b l at k) where
-  pub vertices_held : (xs : List FacePoint) → map (at_corners (vertex_of k.at) k.face) xs ≡ map (at_pixel (vertex_of at) b l at) xs
+  pub vertices_held : (xs : List FacePoint) → map (at_corners (vertex_of k.square.at) k.face) xs ≡ map (at_pixel (vertex_of at) b l at) xs
   vertices_held xs =
       let g = h.heights in
       λ i. map (vertex_of (h.at_is i) (g.g00 i) (g.g10 i) (g.g01 i) (g.g11 i)) xs

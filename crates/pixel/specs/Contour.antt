@@ -1,5 +1,5 @@
 -- What is held of a pixel that was read.
-use Rattle.std.specs.Prelude.{◌≡◌, ℕ, zero, suc, Bool, false, cond, List, [], ◌∷◌, length, take}
+use Rattle.std.specs.Prelude.{◌≡◌, ℕ, Bool, false, cond, List, [], ◌∷◌, length, take}
 use Rattle.block.specs.Block.{Block}
 use Rattle.block.specs.declared.lattice.Point.{Point}
 use Rattle.cell.specs.Corner.{corner_height}
@@ -8,6 +8,8 @@ use Rattle.cell.specs.Crossing.{opposite}
 use Rattle.cell.specs.Cuts.{segments_in}
 use Rattle.cell.specs.Face.{face_segments, meets_level}
 use Rattle.cell.specs.Level.{sign}
+use Rattle.cell.specs.declared.face.Cut.{Cut}
+use Rattle.cell.specs.declared.face.Cut.TheVariants.{Uncut, Single, Rising, Falling, Star}
 use Rattle.cell.specs.declared.face.Face.{Face}
 use Rattle.cell.specs.declared.level.Level.{Level}
 use Rattle.cell.specs.declared.vertex.Axis.TheVariants.{X, Y}
@@ -31,7 +33,7 @@ pub record HeightsOf (b : Block) (l : Level) (at : Point) (f : Face) : Type 0 wh
 
 -- the pixel of a block that a contour holds
 pub record Holds (b : Block) (l : Level) (at : Point) (c : Contour) : Type 0 where
-  pub at_is : c.at ≡ at
+  pub at_is : c.square.at ≡ at
   pub heights : HeightsOf b l at c.face
   pub cut_is : segments_in c.cut ≡ at_pixel face_segments b l at
 
@@ -39,8 +41,19 @@ pub record Holds (b : Block) (l : Level) (at : Point) (c : Contour) : Type 0 whe
 abbrev pub shape_points : PixelShape → List Vertex
 shape_points s = take (length (points_in s.contour.cut)) s.vertices
 
+-- the segments of each case, by the numbers of their ends
+abbrev pub segment : ℕ → ℕ → Segment
+segment from to = record { from = from; to = to }
+
+abbrev pub numbered : Cut → List Segment
+numbered Uncut = []
+numbered (Single p q) = segment 1 2 ∷ []
+numbered Rising = segment 1 4 ∷ segment 2 3 ∷ []
+numbered Falling = segment 1 3 ∷ segment 2 4 ∷ []
+numbered Star = segment 1 5 ∷ segment 2 5 ∷ segment 3 5 ∷ segment 4 5 ∷ []
+
 abbrev pub shape_parts : PixelShape → List Segment
-shape_parts s = take (length (segments_in s.contour.cut)) s.segments
+shape_parts s = numbered s.contour.cut
 
 -- an edge with its crossing, if the heights at its ends have opposite signs
 abbrev pub bordering : Side → Bool → Side × List Joint
@@ -49,16 +62,8 @@ bordering s crossed = (s, cond crossed ((edge_place s ∷ []) ∷ []) [])
 -- the sides of a pixel that was read, with their cuts
 abbrev pub contour_borders : Contour → List (Side × List Joint)
 contour_borders c =
-    bordering (record { axis = Y; point = c.at }) (opposite (sign c.face.g00.value) (sign c.face.g01.value))
-    ∷ bordering (record { axis = Y; point = next_x c.at }) (opposite (sign c.face.g10.value) (sign c.face.g11.value))
-    ∷ bordering (record { axis = X; point = c.at }) (opposite (sign c.face.g00.value) (sign c.face.g10.value))
-    ∷ bordering (record { axis = X; point = next_y c.at }) (opposite (sign c.face.g01.value) (sign c.face.g11.value))
+    bordering (record { axis = Y; point = c.square.at }) (opposite (sign c.face.g00.value) (sign c.face.g01.value))
+    ∷ bordering (record { axis = Y; point = next_x c.square.at }) (opposite (sign c.face.g10.value) (sign c.face.g11.value))
+    ∷ bordering (record { axis = X; point = c.square.at }) (opposite (sign c.face.g00.value) (sign c.face.g10.value))
+    ∷ bordering (record { axis = X; point = next_y c.square.at }) (opposite (sign c.face.g01.value) (sign c.face.g11.value))
     ∷ []
-
--- whether the edge at a place has a crossing
-abbrev pub crossed_side : Contour → ℕ → Bool
-crossed_side c zero = opposite (sign c.face.g00.value) (sign c.face.g01.value)
-crossed_side c (suc zero) = opposite (sign c.face.g10.value) (sign c.face.g11.value)
-crossed_side c (suc (suc zero)) = opposite (sign c.face.g00.value) (sign c.face.g10.value)
-crossed_side c (suc (suc (suc zero))) = opposite (sign c.face.g01.value) (sign c.face.g11.value)
-crossed_side c (suc (suc (suc (suc n)))) = false
