@@ -96,13 +96,12 @@ impl Contour {
     fn vertex(&self, p: FacePoint) -> Vertex
         ensures answer { result ≡ at_corners (vertex_of self.now.square.at) self.now.face p }
     {
-        let [s0, s1, s2, s3] = self.square.sides();
-        let [e0, e1, e2, e3] = self.face.edges();
+        let [p0, p1, p2, p3] = self.borders();
         match p {
-            FacePoint::P0 => crossing(s0, e0),
-            FacePoint::P1 => crossing(s1, e1),
-            FacePoint::P2 => crossing(s2, e2),
-            FacePoint::P3 => crossing(s3, e3),
+            FacePoint::P0 => crossing(p0),
+            FacePoint::P1 => crossing(p1),
+            FacePoint::P2 => crossing(p2),
+            FacePoint::P3 => crossing(p3),
             FacePoint::C => {
                 let centre = self.face.centre_offsets();
                 Vertex::in_face(Axis::Z, self.square.at, centre.first, centre.second)
@@ -111,9 +110,10 @@ impl Contour {
     }
 }
 
-// The crossing of a side, whose edge has the heights at its ends.
-fn crossing(side: Side, edge: Edge) -> Vertex
-    ensures answer { result ≡ on_edge side.axis side.point (along_edge edge.low.value edge.high.value) }
+// The crossing of a side, by the heights at its ends.
+fn crossing(border: (Side, Edge)) -> Vertex
+    ensures answer { result ≡ on_edge border.0.axis border.0.point (along_edge border.1.low.value border.1.high.value) }
 {
+    let (side, edge) = border;
     Vertex::on_edge(side.axis, side.point, edge.offset())
 }

@@ -6,7 +6,7 @@ ghost use Rattle.pixel_theory.specs.Kind.{pixel};
 
 use crate::contour::Contour;
 pub use crate::contour::PixelShape;
-use crate::square::{is_pixel, Square};
+use crate::square::{Square, is_pixel};
 use block::lattice::{Point, Sizes};
 use block::refusal::Refusal;
 use block::source::Source;

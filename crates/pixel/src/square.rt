@@ -7,18 +7,11 @@ ghost use Rattle.pixel_theory.specs.Pixel.{is_pixel, pixel_corners};
 use block::lattice::{Point, Sizes};
 use cell::vertex::{Axis, Side};
 
-// From a pixel's position to its corners in order: dx + 2 dy.
-const STEPS: [Point; 4] = [
-    Point { x: 0, y: 0, z: 0 },
-    Point { x: 1, y: 0, z: 0 },
-    Point { x: 0, y: 1, z: 0 },
-    Point { x: 1, y: 1, z: 0 },
-];
-
 pub fn is_pixel(sizes: Sizes, at: Point) -> bool
     ensures answer { result ≡ is_pixel sizes at }
 {
-    sizes.contains(at.plus(STEPS[3]))
+    let opposite = Point { x: 1, y: 1, z: 0 };
+    sizes.contains(at.plus(opposite))
 }
 
 // The unit square that is a pixel. A block has its corners, so their coordinates fit.
@@ -41,10 +34,21 @@ impl Square {
         }
     }
 
+    // In order: dx + 2 dy.
     pub(crate) fn corners(&self) -> [Point; 4]
         ensures answer { result ≡ pixel_corners self.now.at }
     {
-        STEPS.map(|step| self.at.plus(step))
+        let Point { x, y, z } = self.at;
+        [
+            self.at,
+            Point { x: x + 1, y, z },
+            Point { x, y: y + 1, z },
+            Point {
+                x: x + 1,
+                y: y + 1,
+                z,
+            },
+        ]
     }
 
     // The edges in the order of the points P0 to P3.
