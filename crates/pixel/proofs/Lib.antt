@@ -1,4 +1,5 @@
 pub mod Borders
+pub mod Corners
 pub mod Counting
 pub mod Held
 pub mod Listing

@@ -1,14 +1,15 @@
 // Reading a pixel.
 ghost use Rattle.std.specs.Prelude.{◌≡◌, ◌≤◌, map, length, take};
 ghost use Rattle.block.specs.Refusals.{Outcome};
+ghost use Rattle.cell.specs.Corner.{corners_declined};
 ghost use Rattle.cell.specs.Corners.{at_corners};
 ghost use Rattle.cell.specs.Vertex.{on_edge};
 ghost use Rattle.cell.specs.Crossing.{along_edge};
 ghost use Rattle.kind.specs.Meaning.{cell_declined};
-ghost use Rattle.pixel.specs.Contour.{Holds, numbered};
+ghost use Rattle.pixel.specs.Contour.{HeightsOf, Holds, numbered};
 ghost use Rattle.pixel_theory.specs.Kind.{pixel};
 ghost use Rattle.pixel_theory.specs.Numbers.{points_in};
-ghost use Rattle.pixel_theory.specs.Pixel.{vertex_of};
+ghost use Rattle.pixel_theory.specs.Pixel.{pixel_corners, vertex_of};
 
 use crate::contour::Contour;
 use crate::square::Square;
@@ -34,8 +35,7 @@ impl Contour {
         ensures answer { Outcome (cell_declined pixel (S.Source.block source.now) level at) (Holds (S.Source.block source.now) level at) result }
     {
         let square = Square::new(source.sizes(), at).ok_or(Refusal::NoCell)?;
-        let [g00, g10, g01, g11] = heights_at(source, level, &square.corners())?;
-        let face = Face { g00, g10, g01, g11 };
+        let face = read_face(source, level, square)?;
         let Some(cut) = face.cut() else {
             // A corner on the level was refused.
             unreachable()
@@ -108,6 +108,14 @@ impl Contour {
             }
         }
     }
+}
+
+// The heights at the corners of a pixel.
+fn read_face<S: Source>(source: &S, level: Level, square: Square) -> Result<Face, Refusal>
+    ensures answer { Outcome (corners_declined (S.Source.block source.now) level (pixel_corners square.at)) (HeightsOf (S.Source.block source.now) level square.at) result }
+{
+    let [g00, g10, g01, g11] = heights_at(source, level, &square.corners())?;
+    Ok(Face { g00, g10, g01, g11 })
 }
 
 // The crossing of a side, by the heights at its ends.
