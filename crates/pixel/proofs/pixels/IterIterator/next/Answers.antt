@@ -1,4 +1,4 @@
-use Rattle.std.proofs.Common.{rules, arith, sym, ◌∙◌, ap, length, ◌≡◌, Some, None}
+use Rattle.std.proofs.Common.{rules, arith, sym, ap, length}
 use Rattle.pixel.proofs.Listing.{first_left, none_left}
 use Rattle.pixel.proofs.pixels.IterIterator.next.Goals as goal
 
