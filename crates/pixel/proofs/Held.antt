@@ -3,8 +3,6 @@ use Rattle.std.proofs.Common.{◌≡◌, List, [], ◌∷◌, map, refl}
 use Rattle.block.specs.Block.{Block}
 use Rattle.block.specs.declared.lattice.Point.{Point}
 use Rattle.cell.specs.Corners.{at_corners}
-use Rattle.cell.specs.Crossing.{opposite}
-use Rattle.cell.specs.Level.{sign}
 use Rattle.cell.specs.declared.face.Cut.{Cut}
 use Rattle.cell.specs.declared.face.Cut.TheVariants.{Uncut, Single, Rising, Falling, Star}
 use Rattle.cell.specs.declared.face.FacePoint.{FacePoint}
@@ -15,10 +13,10 @@ use Rattle.kind.specs.declared.segment.Segment.{Segment}
 use Rattle.pixel_theory.specs.Numbers.{numbers_in}
 use Rattle.pixel_theory.specs.Kind.{pixel}
 use Rattle.pixel_theory.specs.Pixel.{at_pixel, vertex_of, next_x, next_y}
-use Rattle.pixel.specs.Contour.{Holds, bordering, contour_borders, numbered}
+use Rattle.pixel.specs.Contour.{Holds, bordering, contour_borders, parts_in}
 use Rattle.pixel.specs.declared.contour.Contour.{Contour}
 
-pub numbers_held : (k : Cut) → map (λ (s : Segment). s.from ∷ s.to ∷ []) (numbered k) ≡ numbers_in k
+pub numbers_held : (k : Cut) → map (λ (s : Segment). s.from ∷ s.to ∷ []) (parts_in k) ≡ numbers_in k
 numbers_held Uncut = refl
 numbers_held (Single p q) = refl
 numbers_held Rising = refl
@@ -34,8 +32,8 @@ module _ (b : Block) (l : Level) (at : Point) (k : Contour) (h : Holds b l at k)
   pub borders_held : contour_borders k ≡ bordered pixel b l at
   borders_held =
       let g = h.heights in
-      λ i. bordering (record { axis = Y; point = h.at_is i }) (opposite (sign (g.g00 i)) (sign (g.g01 i)))
-      ∷ bordering (record { axis = Y; point = next_x (h.at_is i) }) (opposite (sign (g.g10 i)) (sign (g.g11 i)))
-      ∷ bordering (record { axis = X; point = h.at_is i }) (opposite (sign (g.g00 i)) (sign (g.g10 i)))
-      ∷ bordering (record { axis = X; point = next_y (h.at_is i) }) (opposite (sign (g.g01 i)) (sign (g.g11 i)))
+      λ i. bordering (record { axis = Y; point = h.at_is i }) (g.g00 i) (g.g01 i)
+      ∷ bordering (record { axis = Y; point = next_x (h.at_is i) }) (g.g10 i) (g.g11 i)
+      ∷ bordering (record { axis = X; point = h.at_is i }) (g.g00 i) (g.g10 i)
+      ∷ bordering (record { axis = X; point = next_y (h.at_is i) }) (g.g01 i) (g.g11 i)
       ∷ []

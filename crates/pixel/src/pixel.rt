@@ -6,7 +6,7 @@ ghost use Rattle.cell.specs.Corners.{at_corners};
 ghost use Rattle.cell.specs.Vertex.{on_edge};
 ghost use Rattle.cell.specs.Crossing.{along_edge};
 ghost use Rattle.kind.specs.Meaning.{cell_declined};
-ghost use Rattle.pixel.specs.Contour.{HeightsOf, Holds, numbered};
+ghost use Rattle.pixel.specs.Contour.{HeightsOf, Holds, parts_in};
 ghost use Rattle.pixel_theory.specs.Kind.{pixel};
 ghost use Rattle.pixel_theory.specs.Numbers.{points_in};
 ghost use Rattle.pixel_theory.specs.Pixel.{pixel_corners, vertex_of};
@@ -26,7 +26,6 @@ use kind::segment::Segment;
 
 mod border;
 
-// The points of a face that are crossings.
 const CROSSINGS: [FacePoint; 4] = [FacePoint::P0, FacePoint::P1, FacePoint::P2, FacePoint::P3];
 
 impl Contour {
@@ -47,13 +46,13 @@ impl Contour {
     pub(crate) fn vertices(&self) -> [Vertex; 5]
         ensures answer { take (length (points_in self.now.cut)) result ≡ map (at_corners (vertex_of self.now.square.at) self.now.face) (points_in self.now.cut) }
     {
-        let none = Vertex::blank();
+        let blank = Vertex::blank();
         match self.cut {
-            Cut::Uncut => [none; 5],
-            Cut::Single(a, b) => [self.vertex(a), self.vertex(b), none, none, none],
+            Cut::Uncut => [blank; 5],
+            Cut::Single(a, b) => [self.vertex(a), self.vertex(b), blank, blank, blank],
             Cut::Rising | Cut::Falling => {
                 let [p0, p1, p2, p3] = CROSSINGS.map(|p| self.vertex(p));
-                [p0, p1, p2, p3, none]
+                [p0, p1, p2, p3, blank]
             }
             Cut::Star => {
                 let [p0, p1, p2, p3] = CROSSINGS.map(|p| self.vertex(p));
@@ -77,7 +76,7 @@ impl Contour {
 
     // The segments by the numbers of their ends.
     pub(crate) fn segments(&self) -> &'static [Segment]
-        ensures answer { result.now ≡ numbered self.now.cut }
+        ensures answer { result.now ≡ parts_in self.now.cut }
     {
         match self.cut {
             Cut::Uncut => &[],
