@@ -29,12 +29,11 @@ fn word(bytes: &[u8], at: usize) -> u64
     requires { at < 2 ^ 62 }
     ensures answer { result ≡ number_of (five bytes.now at) }
 {
-    // `u64::from_be_bytes` of the five made a packed block's samples a third slower to read.
-    let mut w = u64::from(byte(bytes, at));
-    w = w * 256 + u64::from(byte(bytes, at + 1));
-    w = w * 256 + u64::from(byte(bytes, at + 2));
-    w = w * 256 + u64::from(byte(bytes, at + 3));
-    w * 256 + u64::from(byte(bytes, at + 4))
+    let mut w = 0;
+    for i in 0..5 {
+        w = w * 256 + u64::from(byte(bytes, at + i));
+    }
+    w
 }
 
 fn byte(bytes: &[u8], at: usize) -> u8

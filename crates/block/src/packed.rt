@@ -15,7 +15,7 @@ pub struct Packed<'a> {
     extent: Extent,
     width: u32,
     samples: &'a [u8],
-    ghost narrow: { width ≤ 16 },
+    ghost width_fits: { (1 ≤ width) × (width ≤ 16) },
 }
 
 impl<'a> Packed<'a> {
@@ -74,7 +74,7 @@ struct Header {
     extent: Extent,
     width: u32,
     spare: u32,
-    ghost narrow: { width ≤ 16 },
+    ghost width_fits: { (1 ≤ width) × (width ≤ 16) },
 }
 
 impl Header {
