@@ -1,3 +1,4 @@
-pub mod Corners
-pub mod Entries
+pub mod Faces
+pub mod Heights
+pub mod Places
 pub mod Runs

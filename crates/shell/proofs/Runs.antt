@@ -46,6 +46,10 @@ room ss xs out n g t l h =
     let f = (clips ss t).1.few some in
     omega arith
 
-pub room_left : (xs ys : List ℕ) (out : List LocalTriangle) (n v : ℕ) (k : Clippable xs)
-    → v ≡ apex_of ys → ((ss : List Segment) → Means xs ss → Tame ss → Progress ss ys out n) → v < 18 → n < 22
-room_left xs ys out n v k e i h = room k.segments ys out n (i k.segments k.means k.tame) k.tame k.few (omega arith)
+-- what holds while a clippable set is clipped
+module _ (xs ys : List ℕ) (out : List LocalTriangle) (n : ℕ) (k : Clippable xs) (i : (ss : List Segment) → Means xs ss → Tame ss → Progress ss ys out n) where
+  pub long_left : length ys ≡ 18
+  long_left = (i k.segments k.means k.tame).means.long
+
+  pub room_left : apex_of ys < 18 → n < 22
+  room_left h = room k.segments ys out n (i k.segments k.means k.tame) k.tame k.few h

@@ -1,3 +1,5 @@
+pub mod Corners
+pub mod Links
 pub mod Progress
 pub mod Shell
 pub mod Table

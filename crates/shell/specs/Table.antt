@@ -1,19 +1,15 @@
--- The code's table of a voxel's faces as the rules place them.
-use Rattle.std.specs.Prelude.{◌<◌}
-use Rattle.clipping.specs.Faces.{Placed, points, corner_count, local_vertices}
-use Rattle.shell.specs.declared.Entry.{Entry}
+-- The code's faces of a voxel as the rules place them.
+use Rattle.std.specs.Prelude.{◌≡◌, ℕ, ℤ}
+use Rattle.cell.specs.declared.face.Face.{Face}
+use Rattle.clipping.specs.Faces.{Placed, points}
+use Rattle.shell.specs.declared.face.VoxelFace.{VoxelFace}
 
-abbrev pub placed_of : Entry → Placed
-placed_of e = record { c00 = e.c00; c10 = e.c10; c01 = e.c01; c11 = e.c11; point = points e.p0 e.p1 e.p2 e.p3 e.centre }
+abbrev pub placed_of : VoxelFace → Placed
+placed_of f = record { c00 = f.c00; c10 = f.c10; c01 = f.c01; c11 = f.c11; point = points f.p0 f.p1 f.p2 f.p3 f.centre }
 
--- its corners and its points are the voxel's
-pub record Inside (e : Entry) : Type 0 where
-  pub c00 : e.c00 < corner_count
-  pub c10 : e.c10 < corner_count
-  pub c01 : e.c01 < corner_count
-  pub c11 : e.c11 < corner_count
-  pub p0 : e.p0 < local_vertices
-  pub p1 : e.p1 < local_vertices
-  pub p2 : e.p2 < local_vertices
-  pub p3 : e.p3 < local_vertices
-  pub centre : e.centre < local_vertices
+-- the heights at a face's corners
+pub record FaceOn (g : ℕ → ℤ) (f : Placed) (r : Face) : Type 0 where
+  pub g00 : r.g00.value ≡ g f.c00
+  pub g10 : r.g10.value ≡ g f.c10
+  pub g01 : r.g01.value ≡ g f.c01
+  pub g11 : r.g11.value ≡ g f.c11
