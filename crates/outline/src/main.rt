@@ -42,10 +42,7 @@ fn main(rt: HostRuntime) -> io::Result<()> {
     let length = (io::copy(&mut input, &mut &mut buffer[..])? as usize).min(ROOM);
     match outline(&rt, &buffer[..length]) {
         Ok(()) => Ok(()),
-        Err(Stop::Declined(refusal)) => {
-            let number = refusal.number();
-            println!(rt; "declined {number}")
-        }
+        Err(Stop::Declined(refusal)) => println!(rt; "{refusal}"),
         Err(Stop::Failed(error)) => Err(error),
     }
 }
@@ -65,11 +62,8 @@ fn outline(rt: &HostRuntime, bytes: &[u8]) -> Result<(), Stop> {
 }
 
 fn print_segments(rt: &HostRuntime, block: &Packed, level: Level) -> Result<(), Stop> {
-    let pixels = Pixels::of(block);
-    for i in 0..pixels.count() {
-        if let Some(at) = pixels.at(i) {
-            print_pixel(rt, &Pixel.read(block, level, at)?)?;
-        }
+    for at in Pixels::of(block).iter() {
+        print_pixel(rt, &Pixel.read(block, level, at)?)?;
     }
     Ok(())
 }
