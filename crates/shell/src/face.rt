@@ -1,6 +1,7 @@
 // The faces of a voxel.
 ghost use Rattle.std.specs.Prelude.{◌≡◌, ◌<◌, IsTrue, [], ◌∷◌, nat_lt};
-ghost use Rattle.std.specs.List.{list_all};
+ghost use Rattle.std.specs.List.{list_all, slice_get};
+ghost use Rattle.std.specs.Option.{option_map};
 ghost use Rattle.clipping.specs.Faces.{corner_count, local_vertices};
 
 use cell::face::FacePoint;
@@ -35,7 +36,14 @@ pub const FACES: [VoxelFace; 6] = [
 ];
 
 impl VoxelFace {
-    ghost use Rattle.shell.specs.Table.{placed_of};
+    ghost use Rattle.shell.specs.Table.{drawn, drawn_faces, placed_of};
+
+    // The face at a place, or nothing past the last.
+    pub fn numbered(n: usize) -> Option<VoxelFace>
+        ensures answer { option_map drawn result ≡ slice_get drawn_faces n }
+    {
+        FACES.get(n).copied()
+    }
 
     // The number in the voxel of a point of the face.
     pub fn point(&self, p: FacePoint) -> usize

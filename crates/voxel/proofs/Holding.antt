@@ -1,12 +1,11 @@
 -- What a shape holds is what its voxel means.
-use Rattle.std.proofs.Common.{◌≡◌, ℕ, zero, suc, ◌+◌, ◌<◌, Bool, true, cond, ◌&&◌, ltb, leb, List, [], ◌∷◌, map, length, get_or, ℤ, pos, Some, None, filter, Option, sym, refl, ap, ◌∙◌, ap₂, arith, lit<}
+use Rattle.std.proofs.Common.{◌≡◌, ℕ, suc, ◌<◌, Bool, cond, List, [], ◌∷◌, map, get_or, ℤ, pos, Some, None, filter, sym, refl, ap, ◌∙◌, ap₂, arith, lit<}
 use Rattle.std.specs.List.{Contains, All}
-use Rattle.std.proofs.lemmas.List.Elements.{All-contains}
-use Rattle.std.proofs.lemmas.Bool.{and_parts, ltb-true, ltb-false, leb-true, le-ltb, cond-false}
+use Rattle.std.proofs.lemmas.List.Elements.{All-contains, All-head, All-tail}
+use Rattle.std.proofs.lemmas.Bool.{le-ltb, cond-false}
 use Rattle.block.specs.Block.{Block}
-use Rattle.block.specs.Lattice.{longest, allowed, all_allowed}
 use Rattle.block.specs.declared.lattice.Point.{Point}
-use Rattle.cell.specs.Corner.{corner_height}
+use Rattle.cell.specs.Corner.{corner_height, corners_declined, HeightsAt}
 use Rattle.cell.specs.Face.{face_segments}
 use Rattle.cell.specs.Level.{on_level}
 use Rattle.cell.specs.declared.level.Height.{Height}
@@ -16,42 +15,34 @@ use Rattle.cell.specs.declared.vertex.Side.{Side}
 use Rattle.clipping.specs.Clip.{Triangle, is_on, vertices_on, triangles}
 use Rattle.clipping.specs.Faces.{Off, Placed, local_vertices, local_order, across_x, across_y, across_z, faces, on_face, voxel_segments}
 use Rattle.clipping.specs.Laws.{Proper}
-use Rattle.clipping.proofs.Sets.{lowest_is, lowest_none}
+use Rattle.clipping.proofs.Order.{local_below}
+use Rattle.clipping.proofs.Sets.{lowest_none}
 use Rattle.clipping.proofs.Shells.{shells}
 use Rattle.kind.specs.Meaning.{cell_declined}
-use Rattle.kind.specs.Shapes.{number, bordered}
-use Rattle.kind.proofs.Members.{has_here, has_there, kept_has}
+use Rattle.kind.specs.Shapes.{number, bordered, local_pieces}
 use Rattle.kind.proofs.Reading.{readable}
+use Rattle.voxel.specs.Holds.{Holds}
+use Rattle.voxel.specs.declared.cube.Cube.{Cube}
+use Rattle.kind.proofs.Members.{has_here, has_there, kept_has}
 use Rattle.voxel_theory.specs.Voxel.{voxel, corners, heights, segments, sides, side, next, edge, local_places, place_of, vertex_at, piece_of, cuts, at_heights}
 use Rattle.voxel_theory.proofs.Places.{Matches, place_test, faces_match}
 use Rattle.voxel_theory.proofs.Reading.{off_level}
-use Rattle.voxel.specs.Local.{all_local, local_vertex, centre_vertex, rank, numbered, face_cuts, paired}
-use Rattle.voxel.specs.Reading.{HeightsAt, Near}
-use Rattle.shell.specs.Shell.{AllOff, Local, by_corner, meets_level, shell_of, shell_rule}
-use Rattle.shell.proofs.Corners.{same_segments}
+use Rattle.voxel.specs.Local.{all_local, local_vertex, centre_vertex, rank, numbered, borders_of, face_cuts, paired}
+use Rattle.shell.specs.Corners.{AllOff, by_corner, meets_level}
+use Rattle.shell.proofs.Heights.{same_segments}
+use Rattle.shell.proofs.Faces.{at_map}
 
 -- ---- lists
-at_map : {X Y : Type 0} (f : X → Y) (xs : List X) (k : ℕ) (z : Y) (d : X) → k < length xs → get_or (map f xs) k z ≡ f (get_or xs k d)
-at_map f [] k z d h = absurd (omega arith)
-at_map f (x ∷ xs) zero z d h = refl
-at_map f (x ∷ xs) (suc k) z d h = at_map f xs k z d (omega arith)
-
 map_same : {X Y : Type 0} (f g : X → Y) (xs : List X) → ((x : X) → Contains xs x → f x ≡ g x) → map f xs ≡ map g xs
 map_same f g [] e = refl
 map_same f g (x ∷ xs) e = ap₂ (λ y ys. y ∷ ys) (e x (has_here x xs x refl)) (map_same f g xs (λ z h. e z (has_there x xs z h)))
 
 -- ---- the level meets no corner, by the code's test and by the rules
-pub off_from : (hs : List Height) → AllOff hs → Off (by_corner hs)
-off_from hs h k l = (lowest_is (λ j. on_level (by_corner hs j)) 8).first k (let b = ltb-false _ 8 h in omega arith)
-
 pub from_off : (hs : List Height) → Off (by_corner hs) → AllOff hs
 from_off hs off = le-ltb _ 8 (let e = lowest_none (λ j. on_level (by_corner hs j)) 8 off in omega arith)
 
-below : All (λ w. w < local_vertices) local_order
-below = (lit< tt, (lit< tt, (lit< tt, (lit< tt, (lit< tt, (lit< tt, (lit< tt, (lit< tt, (lit< tt, (lit< tt, (lit< tt, (lit< tt, (lit< tt, (lit< tt, (lit< tt, (lit< tt, (lit< tt, (lit< tt, tt))))))))))))))))))
-
 vertex_below : (p : ℕ → Bool) (v : ℕ) → Contains (filter p local_order) v → v < local_vertices
-vertex_below p v h = All-contains (λ w. w < local_vertices) local_order v below (kept_has p local_order v h).0
+vertex_below p v h = All-contains (λ w. w < local_vertices) local_order v local_below (kept_has p local_order v h).0
 
 -- a local vertex stands at its place
 pub place_local : (c : Point) (g : ℕ → ℤ) (v : ℕ) → v < local_vertices → (local_vertex c g v).place ≡ place_of c v
@@ -90,9 +81,9 @@ module _ (b : Block) (l : Level) (at : Point) (hs : List Height) (e : HeightsAt 
       → map (map (number (map (λ v. vertex_at b l (place_of at v)) vs))) (map (piece_of at) ts) ≡ map (numbered vs) ts
   numbers_are vs [] low p = refl
   numbers_are vs (t ∷ ts) low p =
-      let q = p.0 in
+      let q = All-head Proper t ts p in
       let lt1 : t.1 < local_vertices = omega (arith, q.2, q.4) in
-      λ i. (number_rank vs t.0 low q.3 i ∷ number_rank vs t.1 low lt1 i ∷ number_rank vs t.2 low q.4 i ∷ []) ∷ numbers_are vs ts low p.1 i
+      λ i. (number_rank vs t.0 low q.3 i ∷ number_rank vs t.1 low lt1 i ∷ number_rank vs t.2 low q.4 i ∷ []) ∷ numbers_are vs ts low (All-tail Proper t ts p) i
 
   pub pieces_held : All Proper (triangles (segments b l at))
       → map (numbered (vertices_on (voxel_segments (by_corner hs)))) (triangles (voxel_segments (by_corner hs))) ≡ map (map (number (voxel.vertices b l at))) (voxel.pieces b l at)
@@ -119,9 +110,9 @@ module _ (b : Block) (l : Level) (at : Point) (hs : List Height) (e : HeightsAt 
       ∷ []
 
   -- ---- what is known once the corners were read
-  module _ (none : cell_declined voxel b l at ≡ None) where
+  module _ (none : corners_declined b l (corners at) ≡ None) where
     rules_off : Off (heights b l at)
-    rules_off = off_level b l at (readable voxel b l at none).reads
+    rules_off = off_level b l at none
 
     pub read_off : AllOff hs
     read_off = from_off hs (λ k h. ap on_level (corner_same k h) ∙ rules_off k h)
@@ -129,19 +120,20 @@ module _ (b : Block) (l : Level) (at : Point) (hs : List Height) (e : HeightsAt 
     pub triangles_proper : All Proper (triangles (segments b l at))
     triangles_proper = (shells (heights b l at) rules_off).0.proper
 
-    pub shell_told : (o : Option Local) → o ≡ shell_rule (by_corner hs) → o ≡ Some (shell_of (by_corner hs))
-    shell_told o q = q ∙ cond-false (meets_level (by_corner hs)) None (Some (shell_of (by_corner hs))) read_off
+    -- so the code does not refuse them
+    pub no_refusal : None ≡ cond (meets_level (by_corner hs)) None (Some hs) → ⊥
+    no_refusal e = let q : None ≡ Some hs = e ∙ cond-false (meets_level (by_corner hs)) None (Some hs) read_off in let z : ◌≡◌ {A = ℕ} 0 1 = cc in omega arith
 
-    pub near : all_allowed b.sizes ≡ true → Near at
-    near h =
-        let n = b.sizes in
-        let v = (readable voxel b l at none).is_cell in
-        let a = and_parts (allowed n.x && allowed n.y) _ h in
-        let ax = leb-true _ _ (and_parts (leb 1 n.x) (leb n.x longest) (and_parts (allowed n.x) _ a.0).0).1 in
-        let ay = leb-true _ _ (and_parts (leb 1 n.y) (leb n.y longest) (and_parts (allowed n.x) _ a.0).1).1 in
-        let az = leb-true _ _ (and_parts (leb 1 n.z) (leb n.z longest) a.1).1 in
-        let p = and_parts (ltb (at.x + 1) n.x && ltb (at.y + 1) n.y) _ v in
-        let px = ltb-true _ _ (and_parts (ltb (at.x + 1) n.x) _ p.0).0 in
-        let py = ltb-true _ _ (and_parts (ltb (at.x + 1) n.x) _ p.0).1 in
-        let pz = ltb-true _ _ p.1 in
-        record { x = omega (arith, px, ax); y = omega (arith, py, ay); z = omega (arith, pz, az) }
+-- ---- the vertices, triangles and borders of a voxel that was read
+pub held : (b : Block) (l : Level) (at : Point) (c : Cube) → cell_declined voxel b l at ≡ None → Holds b l at c →
+    let g : ℕ → ℤ = by_corner c.corners.heights in
+    (map (local_vertex c.at g) (vertices_on (voxel_segments g)) ≡ voxel.vertices b l at)
+    × (map (numbered (vertices_on (voxel_segments g))) (triangles (voxel_segments g)) ≡ local_pieces voxel b l at)
+    × (borders_of c.at g ≡ bordered voxel b l at)
+held b l at c none h =
+    let hs = c.corners.heights in
+    let g = by_corner hs in (
+      ap (λ p. map (local_vertex p g) (vertices_on (voxel_segments g))) h.place ∙ vertices_held b l at hs h.heights,
+      pieces_held b l at hs h.heights (triangles_proper b l at hs h.heights (readable voxel b l at none).reads),
+      ap (λ p. borders_of p g) h.place ∙ borders_held b l at hs h.heights,
+    )

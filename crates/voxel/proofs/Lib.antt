@@ -1,4 +1,3 @@
 pub mod Borders
 pub mod Holding
 pub mod Locals
-pub mod Planes

@@ -1,3 +1,5 @@
+pub mod Holds
 pub mod Local
 pub mod Reading
+pub mod Shapes
 pub mod VoxelLaws

@@ -1,10 +1,9 @@
 -- The local vertices of a voxel, from the heights at its corners.
-use Rattle.std.specs.Prelude.{◌≡◌, ℕ, suc, if◌then◌else◌, List, [], ◌∷◌, map, take, ℤ, ◌==◌, slice_index_or}
+use Rattle.std.specs.Prelude.{ℕ, suc, if◌then◌else◌, List, [], ◌∷◌, map, ℤ, ◌==◌, slice_index_or}
 use Rattle.block.specs.declared.lattice.Point.{Point}
 use Rattle.cell.specs.Crossing.{along_edge}
 use Rattle.cell.specs.Face.{FaceSegment, face_segments, centre_offsets}
 use Rattle.cell.specs.Vertex.{on_edge, in_face}
-use Rattle.cell.specs.declared.face.Face.{Face}
 use Rattle.cell.specs.declared.vertex.Axis.{Axis}
 use Rattle.cell.specs.declared.vertex.Axis.TheVariants.{X, Y, Z}
 use Rattle.cell.specs.declared.vertex.Side.{Side}
@@ -12,10 +11,8 @@ use Rattle.cell.specs.declared.vertex.Vertex.{Vertex}
 use Rattle.clipping.specs.Clip.{Triangle}
 use Rattle.clipping.specs.Faces.{Placed, on_face, faces, across_z}
 use Rattle.kind.specs.Meaning.{Joint}
-use Rattle.kind.specs.declared.triangle.Triangle.{Triangle as NumberedTriangle}
 use Rattle.voxel_theory.specs.Voxel.{corners, sides, place_of}
-use Rattle.shell.specs.Shell.{by_corner}
-use Rattle.voxel.specs.declared.held.VoxelShape.{VoxelShape}
+use Rattle.shell.specs.Table.{drawn_faces}
 
 abbrev pub corner_at : Point → ℕ → Point
 corner_at c k = slice_index_or (corners c) k c
@@ -28,6 +25,12 @@ edge_vertex c g a low high = on_edge a (corner_at c low) (along_edge (g low) (g 
 abbrev pub centre_vertex : Point → (ℕ → ℤ) → Axis → ℕ → ℕ → ℕ → ℕ → Vertex
 centre_vertex c g a k00 k10 k01 k11 =
     in_face a (corner_at c k00) (centre_offsets (g k00) (g k10) (g k01) (g k11)).first (centre_offsets (g k00) (g k10) (g k01) (g k11)).second
+
+-- that of the face at a place; past the last, that of the last
+abbrev pub centre_at : Point → (ℕ → ℤ) → ℕ → Vertex
+centre_at c g n =
+    let f = slice_index_or drawn_faces n (Z, across_z 1) in
+    centre_vertex c g f.0 f.1.c00 f.1.c10 f.1.c01 f.1.c11
 
 abbrev pub all_local : Point → (ℕ → ℤ) → List Vertex
 all_local c g =
@@ -49,13 +52,6 @@ rank (u ∷ us) v = if u == v then 1 else suc (rank us v)
 abbrev pub numbered : List ℕ → Triangle → List ℕ
 numbered vs t = rank vs t.0 ∷ rank vs t.1 ∷ rank vs t.2 ∷ []
 
--- what a shape hands out
-abbrev pub shape_points : VoxelShape → List Vertex
-shape_points s = take s.vertex_count s.vertices
-
-abbrev pub shape_parts : VoxelShape → List NumberedTriangle
-shape_parts s = take s.triangle_count s.triangles
-
 -- a face with its cuts
 abbrev pub face_joint : Point → Placed → FaceSegment → Joint
 face_joint c f s = place_of c (f.point s.0) ∷ place_of c (f.point s.1) ∷ []
@@ -68,16 +64,5 @@ paired [] js = []
 paired (s ∷ ss) [] = []
 paired (s ∷ ss) (j ∷ js) = (s, j) ∷ paired ss js
 
-abbrev pub shape_borders : VoxelShape → List (Side × List Joint)
-shape_borders s = paired (sides s.at) (map (face_cuts s.at (by_corner s.heights)) faces)
-
--- the face at a place; the last, past the last
-abbrev pub face_at : ℕ → Placed
-face_at k = slice_index_or faces k (across_z 1)
-
--- the heights at a face's corners
-pub record FaceOn (g : ℕ → ℤ) (f : Placed) (r : Face) : Type 0 where
-  pub g00 : r.g00.value ≡ g f.c00
-  pub g10 : r.g10.value ≡ g f.c10
-  pub g01 : r.g01.value ≡ g f.c01
-  pub g11 : r.g11.value ≡ g f.c11
+abbrev pub borders_of : Point → (ℕ → ℤ) → List (Side × List Joint)
+borders_of c g = paired (sides c) (map (face_cuts c g) faces)

@@ -1,9 +1,0 @@
-use Rattle.std.proofs.Common.{ap, ◌∙◌}
-use Rattle.shell.specs.Shell.{by_corner}
-use Rattle.voxel.proofs.Holding.{place_local}
-use Rattle.voxel.proofs.voxel.place.Goals as goal
-
-pub returns : goal.returns
-returns c =
-    let s = c.args.shape.now in
-    record { answer = ap (λ v. v.place) c.vertex.ensures.answer ∙ place_local s.at (by_corner s.heights) c.args.v c.requires }
