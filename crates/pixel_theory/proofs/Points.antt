@@ -1,8 +1,9 @@
 -- The places of a pixel's points, told apart, and the heights of a pixel that can be read.
-use Rattle.std.proofs.Common.{◌≡◌, ℕ, ◌+◌, true, false, ◌&&◌, eqb, sym, refl, ap, ◌∙◌, arith}
+use Rattle.std.proofs.Common.{◌≡◌, ℕ, ◌+◌, true, false, ◌&&◌, eqb, None, sym, refl, ap, ◌∙◌, arith}
 use Rattle.std.proofs.lemmas.Bool.{eq-eqb, ne_eqb, or_from}
 use Rattle.block.specs.Block.{Block}
 use Rattle.block.specs.declared.lattice.Point.{Point}
+use Rattle.cell.specs.Corner.{corners_declined}
 use Rattle.cell.specs.Face.{meets_level}
 use Rattle.cell.specs.Interpolant.{same}
 use Rattle.cell.specs.declared.face.FacePoint.{FacePoint}
@@ -56,8 +57,11 @@ module _ (c : Point) where
   pub apart : (x y : FacePoint) → place_of c x ≡ place_of c y → same x y ≡ true
   apart x y e = sym (same_points x y) ∙ (same_place_decides (place_of c x) (place_of c y)).1 e
 
--- a pixel that can be read meets the level at no corner
-pub reads_off : (b : Block) (l : Level) (c : Point) → Readable pixel b l c → at_pixel meets_level b l c ≡ false
-reads_off b l c r =
-    let off = all_off b l (pixel_corners c) r.reads in
+-- corners that are not declined are off the level, and so are those of a pixel that can be read
+pub corners_off : (b : Block) (l : Level) (c : Point) → corners_declined b l (pixel_corners c) ≡ None → at_pixel meets_level b l c ≡ false
+corners_off b l c reads =
+    let off = all_off b l (pixel_corners c) reads in
     or_from _ _ off.0 (or_from _ _ off.1.0 (or_from _ _ off.1.1.0 off.1.1.1.0))
+
+pub reads_off : (b : Block) (l : Level) (c : Point) → Readable pixel b l c → at_pixel meets_level b l c ≡ false
+reads_off b l c r = corners_off b l c r.reads
