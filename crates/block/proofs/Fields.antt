@@ -1,5 +1,5 @@
 -- A bit field is a quotient and a remainder of the number that the bytes make up.
-use Rattle.std.proofs.Common.{◌≡◌, ℕ, zero, suc, ◌+◌, ◌-◌, ◌*◌, ◌/◌, ◌%◌, ◌^◌, ◌<◌, ◌≤◌, List, [], ◌∷◌, get_or, sym, refl, ap, ◌∙◌, ap₂, ⊎_elim, mul_left_comm, arith}
+use Rattle.std.proofs.Common.{◌≡◌, ℕ, zero, suc, ◌+◌, ◌-◌, ◌*◌, ◌/◌, ◌%◌, ◌^◌, ◌<◌, ◌≤◌, List, [], ◌∷◌, get_or, sym, refl, ap, ◌∙◌, ⊎_elim, mul_left_comm, arith}
 use native.Mathlib.Nat.{mul-add-div_right, pow-succ'}
 use lib.Bits.{bit_and}
 use Rattle.std.proofs.lemmas.Nat.{pow-add, pow_pos, shr-shr, shr_high, mul-le, mod-pow-add, one_shl, and_mask}
@@ -15,23 +15,16 @@ word_below [] h = omega arith
 word_below (b ∷ bs) h =
     let rest = word_below bs h.1 in
     let first = mul-le b (2 ^ width_of bs) 255 (2 ^ width_of bs) (omega (arith, h.0)) (omega arith) in
-    let all : 2 ^ (8 + width_of bs) ≡ 256 * 2 ^ width_of bs = pow-add 2 8 (width_of bs) in
-    omega arith
+    omega (arith, pow-add 2 8 (width_of bs))
 
 -- the bits of the first byte, and those of the rest
 bit_first : (b : ℕ) (bs : List ℕ) (k : ℕ) → k < 8 → bit (b ∷ bs) k ≡ b / 2 ^ (7 - k) % 2
 unfolding bit
-bit_first b bs k h =
-    let q : k / 8 ≡ 0 = omega arith in
-    let r : k % 8 ≡ k = omega arith in
-    ap₂ (λ i j. get_or (b ∷ bs) i 0 / 2 ^ (7 - j) % 2) q r
+bit_first b bs k h = grind arith
 
 bit_next : (b : ℕ) (bs : List ℕ) (k : ℕ) → bit (b ∷ bs) (8 + k) ≡ bit bs k
 unfolding bit
-bit_next b bs k =
-    let q : (8 + k) / 8 ≡ suc (k / 8) = omega arith in
-    let r : (8 + k) % 8 ≡ k % 8 = omega arith in
-    ap₂ (λ i j. get_or (b ∷ bs) i 0 / 2 ^ (7 - j) % 2) q r
+bit_next b bs k = grind arith
 
 -- what stands left of a number's bits does not change one of them
 low_bit : (b w m j : ℕ) → ((b * 2 ^ (m + suc j) + w) / 2 ^ m) % 2 ≡ w / 2 ^ m % 2
@@ -78,45 +71,34 @@ field_word bs h start (suc n) m e =
 
 pub field_below : (bs : List ℕ) (start n : ℕ) → field bs start n < 2 ^ n
 unfolding field bit
-field_below bs start zero = omega arith
-field_below bs start (suc n) =
-    let before = field_below bs start n in
-    let all = pow-succ' 2 n in
-    omega arith
+field_below bs start zero = grind arith
+field_below bs start (suc n) = grind (arith, pow-succ', field_below bs start n)
 
 -- within five bytes, a field of the row is one of the five
 five_at : (bytes : List ℕ) (k j : ℕ) → j < 5 → get_or (five bytes k) j 0 ≡ get_or bytes (k + j) 0
-five_at bytes k zero h = ap (λ i. get_or bytes i 0) (omega arith)
-five_at bytes k (suc zero) h = refl
-five_at bytes k (suc (suc zero)) h = refl
-five_at bytes k (suc (suc (suc zero))) h = refl
-five_at bytes k (suc (suc (suc (suc zero)))) h = refl
-five_at bytes k (suc (suc (suc (suc (suc j))))) h = absurd (omega arith)
+five_at bytes k j h = grind arith
 
-five_bit : (bytes : List ℕ) (k i : ℕ) → i < 40 → bit bytes (8 * k + i) ≡ bit (five bytes k) i
+five_bit : (bytes : List ℕ) (k i at : ℕ) → at ≡ 8 * k + i → i < 40 → bit bytes at ≡ bit (five bytes k) i
 unfolding bit
-five_bit bytes k i h =
-    let q : (8 * k + i) / 8 ≡ k + i / 8 = omega arith in
-    let r : (8 * k + i) % 8 ≡ i % 8 = omega arith in
-    ap₂ (λ b j. b / 2 ^ (7 - j) % 2) (ap (λ n. get_or bytes n 0) q ∙ sym (five_at bytes k (i / 8) (omega arith))) r
+five_bit bytes k i at e h = grind (arith, five_at)
 
-five_field : (bytes : List ℕ) (k i n : ℕ) → i + n ≤ 40 → field bytes (8 * k + i) n ≡ field (five bytes k) i n
+five_field : (bytes : List ℕ) (k i at n : ℕ) → at ≡ 8 * k + i → i + n ≤ 40 → field bytes at n ≡ field (five bytes k) i n
 unfolding field
-five_field bytes k i zero h = refl
-five_field bytes k i (suc n) h =
-    let before = five_field bytes k i n (omega arith) in
-    let last : bit bytes (8 * k + i + n) ≡ bit (five bytes k) (i + n) = ap (bit bytes) (omega arith) ∙ five_bit bytes k (i + n) (omega arith) in
+five_field bytes k i at zero e h = refl
+five_field bytes k i at (suc n) e h =
+    let before = five_field bytes k i at n e (omega arith) in
+    let last = five_bit bytes k (i + n) (at + n) (omega arith) (omega arith) in
     omega arith
 
 -- the fields of a header of five bytes
 pub first_five_field : (bytes : List ℕ) (i n : ℕ) → i + n ≤ 40 → field (five bytes 0) i n ≡ field bytes i n
-first_five_field bytes i n h = sym (five_field bytes 0 i n h) ∙ ap (λ k. field bytes k n) (omega arith)
+first_five_field bytes i n h = sym (five_field bytes 0 i i n (omega arith) h)
 
 -- a field by the number that its five bytes make up
 pub field_of_five : (bytes : List ℕ) (start n m : ℕ) → Bytes (five bytes (start / 8)) → start % 8 + n + m ≡ 40
     → field bytes start n ≡ number_of (five bytes (start / 8)) / 2 ^ m % 2 ^ n
 field_of_five bytes start n m small e =
-    ap (λ i. field bytes i n) (omega arith) ∙ five_field bytes (start / 8) (start % 8) n (omega arith)
+    five_field bytes (start / 8) (start % 8) start n (omega arith) (omega arith)
     ∙ field_word (five bytes (start / 8)) small (start % 8) n m e
 
 -- the lowest n bits, as the code masks them

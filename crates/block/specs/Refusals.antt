@@ -1,5 +1,5 @@
 -- What each refusal tells: its number, and the fault or the point that it carries.
-use Rattle.std.specs.Prelude.{◌≡◌, ℕ, Some, None, Ok, Err, Option, Result}
+use Rattle.std.specs.Prelude.{◌≡◌, ℕ, List, ◌++◌, Some, None, Ok, Err, Option, Result, codes, decimal}
 use Rattle.block.specs.declared.fault.Fault.{Fault}
 use Rattle.block.specs.declared.lattice.Point.{Point}
 use Rattle.block.specs.declared.refusal.Refusal.{Refusal}
@@ -22,6 +22,10 @@ told Level = plain 5
 told NoCell = plain 7
 told (Faulty f) = record { number = 10; fault = Some f; point = None }
 told (OnLevel p) = record { number = 11; fault = None; point = Some p }
+
+-- the text of a refusal: declined 7
+abbrev pub text_of : Refusal → List ℕ
+text_of r = codes "declined " ++ decimal (told r).number
 
 -- the outcome of a call: where the rules decline it, what they tell; else an answer of which P holds
 abbrev pub Outcome : {A : Type 0} → Option Told → (A → Type 0) → Result A Refusal → Type 0

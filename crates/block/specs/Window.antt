@@ -1,5 +1,5 @@
 -- The block that a window shows of the block below.
-use Rattle.std.specs.Prelude.{ℕ, ◌+◌, Bool, cond, ◌&&◌, ℤ, Some, None, Ok, Err, Option, Result, nat_le}
+use Rattle.std.specs.Prelude.{ℕ, ◌+◌, Bool, if◌then◌else◌, ◌&&◌, ℤ, Some, None, Ok, Err, Option, Result, nat_le}
 use Rattle.block.specs.Block.{Block}
 use Rattle.block.specs.Extent.{sizes_of}
 use Rattle.block.specs.Faults.{fresh, raised}
@@ -20,7 +20,7 @@ passed_up (Err f) = Err (raised f)
 abbrev pub shown : (Point → Point) → Block → Sizes → Block
 shown place below n = record {
   sizes = n;
-  at = λ p. cond (inside n p) (passed_up (below.at (place p))) (Err (fresh Outside p));
+  at = λ p. if inside n p then passed_up (below.at (place p)) else Err (fresh Outside p);
 }
 
 -- a point is the origin plus that point below
@@ -37,4 +37,4 @@ lies_within origin size below = nat_le 1 size && nat_le (origin + size) below
 
 abbrev pub window_declined : Sizes → Point → Sizes → Option Told
 window_declined m o n =
-    cond (lies_within o.x n.x m.x && lies_within o.y n.y m.y && lies_within o.z n.z m.z) None (Some (plain 4))
+    if lies_within o.x n.x m.x && lies_within o.y n.y m.y && lies_within o.z n.z m.z then None else Some (plain 4)

@@ -13,7 +13,8 @@ pub fn bits(bytes: &[u8], start: usize, width: u32) -> u32
     cut_out(bytes, start, width.min(32))
 }
 
-fn cut_out(bytes: &[u8], start: usize, width: u32) -> u32
+// The same, of a width that is known to be no more.
+pub(crate) fn cut_out(bytes: &[u8], start: usize, width: u32) -> u32
     requires { width ≤ 32 }
     ensures answer { result ≡ field bytes.now start width }
     ensures bound { result < 2 ^ width }
@@ -28,15 +29,15 @@ fn word(bytes: &[u8], at: usize) -> u64
     requires { at < 2 ^ 62 }
     ensures answer { result ≡ number_of (five bytes.now at) }
 {
-    let mut w = u64::from(byte(bytes, at));
-    w = w * 256 + u64::from(byte(bytes, at + 1));
-    w = w * 256 + u64::from(byte(bytes, at + 2));
-    w = w * 256 + u64::from(byte(bytes, at + 3));
-    w * 256 + u64::from(byte(bytes, at + 4))
+    let mut w = 0;
+    for i in 0..5 {
+        w = w * 256 + u64::from(byte(bytes, at + i));
+    }
+    w
 }
 
 fn byte(bytes: &[u8], at: usize) -> u8
     ensures answer { result ≡ slice_index bytes.now at }
 {
-    if at < bytes.len() { bytes[at] } else { 0 }
+    bytes.get(at).copied().unwrap_or(0)
 }

@@ -7,19 +7,16 @@ use crate::lattice::Point;
 #[derive(Clone, Copy, PartialEq, Eq, Debug)]
 pub enum Cause {
     // The sample is marked as missing.
-    Missing,
+    Missing = 1,
     // The point lies outside the block.
-    Outside,
+    Outside = 2,
 }
 
 impl Cause {
     pub fn number(&self) -> u8
         ensures answer { result ≡ cause_number self.now }
     {
-        match self {
-            Cause::Missing => 1,
-            Cause::Outside => 2,
-        }
+        *self as u8
     }
 }
 

@@ -1,9 +1,6 @@
 // A raster: a row of signed 16-bit samples, x fastest, then y, then z.
-ghost use Rattle.std.specs.Prelude.{◌≡◌, length, pos, slice_index_or};
-ghost use Rattle.block.specs.Block.{InRange};
-ghost use Rattle.block.specs.Raster.{raster_block, raster_told, raster_declined, sample_or_missing};
-ghost use Rattle.block.specs.Formed.{raster_formed};
-ghost use Rattle.block.specs.Refusals.{Outcome};
+ghost use Rattle.std.specs.Prelude.{◌≡◌, length};
+ghost use Rattle.block.specs.Lattice.{count};
 
 use crate::extent::Extent;
 use crate::fault::{Cause, Fault};
@@ -15,15 +12,17 @@ use crate::source::Source;
 pub struct Raster<'a> {
     extent: Extent,
     samples: &'a [i16],
+    ghost one_each: { length samples.now ≡ count extent.sizes },
 }
 
 impl<'a> Raster<'a> {
+    ghost use Rattle.block.specs.Raster.{raster_block, raster_told, raster_declined};
+    ghost use Rattle.block.specs.Refusals.{Outcome};
+
     pub fn new(sizes: Sizes, samples: &'a [i16]) -> Result<Raster<'a>, Refusal>
         ensures answer { Outcome (raster_declined sizes (length samples.now)) (λ s. raster_told s ≡ raster_block sizes samples.now) result }
     {
-        let Some(extent) = Extent::new(sizes) else {
-            return Err(Refusal::RasterSize);
-        };
+        let extent = Extent::new(sizes).ok_or(Refusal::RasterSize)?;
         if samples.len() != extent.count() {
             return Err(Refusal::Length);
         }
@@ -32,6 +31,9 @@ impl<'a> Raster<'a> {
 }
 
 impl Source for Raster<'_> {
+    ghost use Rattle.block.specs.Raster.{raster_told};
+    ghost use Rattle.block.specs.Formed.{raster_formed};
+
     ghost block = { raster_told };
 
     ghost formed = { raster_formed };
@@ -44,24 +46,10 @@ impl Source for Raster<'_> {
         if !self.extent.contains(p) {
             return Err(Fault::new(Cause::Outside, p));
         }
-        told(read(self.samples, self.extent.index(p)), p)
+        let v = self.samples[self.extent.index(p)];
+        if v == i16::MIN {
+            return Err(Fault::new(Cause::Missing, p));
+        }
+        Ok(i32::from(v))
     }
-}
-
-// The sample at a place; `new` has seen to it that each point of the block has one.
-fn read(samples: &[i16], i: usize) -> i16
-    ensures answer { result ≡ slice_index_or samples.now i (pos 0) }
-{
-    if i < samples.len() { samples[i] } else { 0 }
-}
-
-// What a raster tells of the 16 bits at a point.
-fn told(v: i16, p: Point) -> Result<i32, Fault>
-    ensures answer { result ≡ sample_or_missing p v }
-    ensures range { InRange result }
-{
-    if v == i16::MIN {
-        return Err(Fault::new(Cause::Missing, p));
-    }
-    Ok(i32::from(v))
 }

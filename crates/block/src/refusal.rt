@@ -1,10 +1,12 @@
 // Why a call is declined.
-ghost use Rattle.std.specs.Prelude.{◌≡◌};
-ghost use Rattle.block.specs.Refusals.{told};
+ghost use Rattle.std.specs.Prelude.{◌≡◌, Some};
+ghost use Rattle.block.specs.Refusals.{told, text_of};
 ghost use Rattle.block.specs.declared.refusal.Refusal.TheVariants.{Faulty as AFaulty};
 
 use crate::fault::Fault;
 use crate::lattice::Point;
+use std::error::Error;
+use std::fmt;
 
 #[derive(Clone, Copy, PartialEq, Eq, Debug)]
 pub enum Refusal {
@@ -27,6 +29,7 @@ pub enum Refusal {
 }
 
 impl Refusal {
+    // A variant that carries a value has no number of its own to be read, so all stand here.
     pub fn number(&self) -> u8
         ensures answer { result ≡ (told self.now).number }
     {
@@ -42,6 +45,17 @@ impl Refusal {
         }
     }
 }
+
+impl fmt::Display for Refusal {
+    ghost output = { λ r. Some (text_of r) };
+
+    fn fmt<W: fmt::Write>(&self, f: &mut fmt::Formatter<W>) -> fmt::Result {
+        let number = self.number();
+        write!(f, "declined {number}")
+    }
+}
+
+impl Error for Refusal {}
 
 impl From<Fault> for Refusal {
     ghost from_gives = { λ f r. r ≡ AFaulty f };

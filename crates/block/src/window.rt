@@ -31,12 +31,6 @@ impl<S: Source> Window<S> {
             × (window_told S.Source.block w ≡ window_block origin (S.Source.block below) sizes))
             (λ e. (window_declined (S.Source.block below).sizes origin sizes ≡ Some (told e.refusal)) × (e.below ≡ below)) }
     {
-        let Some(extent) = Extent::new(sizes) else {
-            return Err(NoWindow {
-                refusal: Refusal::Window,
-                below,
-            });
-        };
         let n = below.sizes();
         if !reaches(origin.x, sizes.x, n.x)
             || !reaches(origin.y, sizes.y, n.y)
@@ -50,16 +44,17 @@ impl<S: Source> Window<S> {
         Ok(Window {
             below,
             origin,
-            extent,
+            // Sizes within those of a block are in its limits.
+            extent: Extent::new(sizes).unwrap(),
         })
     }
 }
 
-// Whether a window lies within the block below, along one axis. The sum of origin and size may not fit, so it is not formed.
+// Whether a window lies within the block below, along one axis.
 fn reaches(origin: u32, size: u32, below: u32) -> bool
     ensures answer { result ≡ lies_within origin size below }
 {
-    1 <= size && size <= below && origin <= below - size
+    1 <= size && origin.checked_add(size).is_some_and(|end| end <= below)
 }
 
 impl<S: Source> Source for Window<S> {
@@ -75,9 +70,8 @@ impl<S: Source> Source for Window<S> {
         if !self.extent.contains(p) {
             return Err(Fault::new(Cause::Outside, p));
         }
-        match self.below.sample(self.origin.plus(p)) {
-            Ok(v) => Ok(v),
-            Err(f) => Err(f.raised()),
-        }
+        self.below
+            .sample(self.origin.plus(p))
+            .map_err(Fault::raised)
     }
 }

@@ -1,5 +1,5 @@
 -- The product of two heights, as 64 bits hold it.
-use Rattle.std.proofs.Common.{◌≡◌, suc, ◌^◌, ◌≤◌, ℤ, pos, negsuc, ◌-ℤ◌, ◌*ℤ◌, nat_abs, ap, ◌∙◌, ap₂, arith, w64, SFits, to_z, of_z}
+use Rattle.std.proofs.Common.{◌≡◌, suc, ◌^◌, ◌≤◌, ℤ, pos, negsuc, ◌*ℤ◌, nat_abs, ap, ◌∙◌, ap₂, arith, w64, to_z, of_z}
 use Rattle.std.proofs.lemmas.Nat.{mul-le}
 use Rattle.std.proofs.lemmas.Int.{ints}
 
@@ -19,6 +19,3 @@ product_is a b x y ha hb ex ey =
     ap (λ z. to_z w64 (of_z w64 z))
     (ap₂ (λ u v. u *ℤ v) (ap (λ z. to_z w64 (of_z w64 z)) ex ∙ back a (omega arith)) (ap (λ z. to_z w64 (of_z w64 z)) ey ∙ back b (omega arith)))
     ∙ back (a *ℤ b) (product_small a b ha hb)
-
-pub difference_fits : (x y : ℤ) → nat_abs x ≤ 2 ^ 50 → nat_abs y ≤ 2 ^ 50 → SFits w64 (to_z w64 (of_z w64 x) -ℤ to_z w64 (of_z w64 y))
-difference_fits x y hx hy = omega (arith, ints)

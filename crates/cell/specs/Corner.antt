@@ -1,5 +1,5 @@
 -- What is read at a corner of a cell.
-use Rattle.std.specs.Prelude.{◌≡◌, cond, List, [], ◌∷◌, map, ℤ, pos, Some, None, Ok, Err, Option, Result}
+use Rattle.std.specs.Prelude.{◌≡◌, if◌then◌else◌, List, [], ◌∷◌, map, ℤ, pos, Some, None, Ok, Err, Option, Result}
 use Rattle.block.specs.Block.{Block}
 use Rattle.block.specs.Refusals.{Told, told}
 use Rattle.block.specs.declared.fault.Fault.{Fault}
@@ -15,7 +15,7 @@ height_above l v = height l.p l.q v
 -- the refusal of a corner that answers a fault or meets the level
 abbrev pub answer_declined : Level → Point → Result ℤ Fault → Option Told
 answer_declined l at (Err f) = Some (told (Faulty f))
-answer_declined l at (Ok v) = cond (on_level (height_above l v)) (Some (told (OnLevel at))) None
+answer_declined l at (Ok v) = if on_level (height_above l v) then Some (told (OnLevel at)) else None
 
 abbrev pub corner_declined : Block → Level → Point → Option Told
 corner_declined b l at = answer_declined l at (b.at at)

@@ -1,5 +1,5 @@
 -- Where the level crosses a lattice edge.
-use Rattle.std.specs.Prelude.{ℕ, ◌+◌, Bool, true, false, cond, ℤ, Some, None, Option, unsigned_abs}
+use Rattle.std.specs.Prelude.{ℕ, ◌+◌, Bool, true, false, if◌then◌else◌, ℤ, Some, None, Option, unsigned_abs}
 use Rattle.cell.specs.Level.{Sign, minus, none, plus, sign}
 pub use Rattle.cell.specs.declared.crossing.Offset.{Offset}
 
@@ -23,4 +23,4 @@ along_edge low high = offset (unsigned_abs low) (unsigned_abs low + unsigned_abs
 
 -- the crossing of an edge
 abbrev pub crossing_of : ℤ → ℤ → Option Offset
-crossing_of low high = cond (opposite (sign low) (sign high)) (Some (along_edge low high)) None
+crossing_of low high = if opposite (sign low) (sign high) then Some (along_edge low high) else None

@@ -1,5 +1,5 @@
 -- How the level cuts a unit face, by the heights at its corners 00, 10, 01, 11.
-use Rattle.std.specs.Prelude.{ℕ, ◌+◌, Bool, true, false, cond, ◌&&◌, ◌||◌, List, [], ◌∷◌, ℤ, ◌-ℤ◌, ◌*ℤ◌, Some, None, Option, unsigned_abs}
+use Rattle.std.specs.Prelude.{ℕ, ◌+◌, Bool, true, false, if◌then◌else◌, ◌&&◌, ◌||◌, List, [], ◌∷◌, ℤ, ◌-ℤ◌, ◌*ℤ◌, Some, None, Option, unsigned_abs}
 use Rattle.cell.specs.Level.{Sign, minus, none, plus, sign, sign_is_none, on_level}
 use Rattle.cell.specs.Crossing.{opposite, Offset, offset, crossing_of}
 use Rattle.cell.specs.declared.face.Centre.{Centre}
@@ -52,7 +52,7 @@ meets_level g00 g10 g01 g11 = on_level g00 || (on_level g10 || (on_level g01 || 
 
 -- a face has its segments where the level meets no corner of it
 abbrev pub face_rule : ℤ → ℤ → ℤ → ℤ → Option (List FaceSegment)
-face_rule g00 g10 g01 g11 = cond (meets_level g00 g10 g01 g11) None (Some (face_segments g00 g10 g01 g11))
+face_rule g00 g10 g01 g11 = if meets_level g00 g10 g01 g11 then None else Some (face_segments g00 g10 g01 g11)
 
 -- whether all four edges have a crossing
 abbrev pub all_crossed : Sign → Sign → Sign → Sign → Bool
@@ -79,7 +79,7 @@ centre_offsets g00 g10 g01 g11 = record {
 
 -- the centre of a face that has one
 abbrev pub centre_of_face : ℤ → ℤ → ℤ → ℤ → Option Centre
-centre_of_face g00 g10 g01 g11 = cond (has_centre g00 g10 g01 g11) (Some (centre_offsets g00 g10 g01 g11)) None
+centre_of_face g00 g10 g01 g11 = if has_centre g00 g10 g01 g11 then Some (centre_offsets g00 g10 g01 g11) else None
 
 -- the crossing of the edge that a point is on
 abbrev pub crossing_at : ℤ → ℤ → ℤ → ℤ → FacePoint → Option Offset

@@ -1,6 +1,6 @@
 -- The segments of a face follow the bilinear interpolant of the heights at its corners,
 -- G(u, v) = (1 - u)(1 - v) G00 + u (1 - v) G10 + (1 - u) v G01 + u v G11.
-use Rattle.std.specs.Prelude.{◌≡◌, ℕ, ◌+◌, ◌-◌, ◌*◌, Bool, true, false, cond, ◌&&◌, List, [], ◌∷◌, ℤ, pos, ◌+ℤ◌, ◌*ℤ◌, neg_ℤ, is_some, count_by, ◌==◌}
+use Rattle.std.specs.Prelude.{◌≡◌, ℕ, ◌+◌, ◌-◌, ◌*◌, Bool, true, false, if◌then◌else◌, ◌&&◌, List, [], ◌∷◌, ℤ, pos, ◌+ℤ◌, ◌*ℤ◌, neg_ℤ, is_some, count_by, ◌==◌}
 use Rattle.cell.specs.Level.{Sign, minus, none, plus, sign}
 use Rattle.cell.specs.Crossing.{opposite, Offset, offset, along_edge}
 use Rattle.cell.specs.Face.{FacePoint, P0, P1, P2, P3, C, FaceSegment, Δ, total, all_crossed, centred, has_centre, centre_offsets, crossing_at, meets_level, face_segments}
@@ -79,7 +79,7 @@ abbrev pub ends_at : List FaceSegment → FacePoint → ℕ
 ends_at ss x = count_by (λ s. same x s.0) ss + count_by (λ s. same x s.1) ss
 
 abbrev pub one_if : Bool → ℕ
-one_if b = cond b 1 0
+one_if b = if b then 1 else 0
 
 -- how many segments a point lies on: one at a crossing, four at the centre where the face has it
 abbrev pub degree : Sign → Sign → Sign → Sign → Sign → FacePoint → ℕ
@@ -87,7 +87,7 @@ degree s00 s10 s01 s11 d P0 = one_if (opposite s00 s01)
 degree s00 s10 s01 s11 d P1 = one_if (opposite s10 s11)
 degree s00 s10 s01 s11 d P2 = one_if (opposite s00 s10)
 degree s00 s10 s01 s11 d P3 = one_if (opposite s01 s11)
-degree s00 s10 s01 s11 d C = cond (centred s00 s10 s01 s11 d) 4 0
+degree s00 s10 s01 s11 d C = if centred s00 s10 s01 s11 d then 4 else 0
 
 -- segments that follow the interpolant
 pub record Interpolated (g00 g10 g01 g11 : ℤ) (ss : List FaceSegment) : Type 0 where

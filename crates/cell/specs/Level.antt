@@ -1,5 +1,5 @@
 -- A level p/q, and the height of a point above it.
-use Rattle.std.specs.Prelude.{ℕ, zero, suc, Bool, true, false, cond, ◌&&◌, ℤ, pos, negsuc, ◌-ℤ◌, ◌*ℤ◌, Some, None, Option, nat_le, unsigned_abs}
+use Rattle.std.specs.Prelude.{ℕ, zero, suc, Bool, true, false, if◌then◌else◌, ◌&&◌, ℤ, pos, negsuc, ◌-ℤ◌, ◌*ℤ◌, Some, None, Option, nat_le, unsigned_abs}
 use Rattle.block.specs.Refusals.{Told, plain}
 
 -- the height of a point with a sample above the level p/q
@@ -45,8 +45,8 @@ sample_allowed sample = nat_le (unsigned_abs sample) most_sample
 
 -- the refusal of a level, if any
 abbrev pub level_declined : ℤ → ℕ → Option Told
-level_declined p q = cond (level_allowed p q) None (Some (plain 5))
+level_declined p q = if level_allowed p q then None else Some (plain 5)
 
 -- a sample within the limit has a height, and no other has
 abbrev pub height_rule : ℤ → ℕ → ℤ → Option ℤ
-height_rule p q sample = cond (sample_allowed sample) (Some (height p q sample)) None
+height_rule p q sample = if sample_allowed sample then Some (height p q sample) else None

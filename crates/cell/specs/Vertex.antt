@@ -1,5 +1,5 @@
 -- Vertices on edges and in faces, and the text of a vertex.
-use Rattle.std.specs.Prelude.{ℕ, cond, List, ◌++◌, Some, None, codes, decimal, ◌==◌}
+use Rattle.std.specs.Prelude.{ℕ, if◌then◌else◌, List, ◌++◌, Some, None, codes, decimal, ◌==◌}
 use Rattle.block.specs.declared.lattice.Point.{Point}
 use Rattle.cell.specs.Crossing.{offset}
 use Rattle.cell.specs.declared.crossing.Offset.{Offset}
@@ -40,8 +40,8 @@ no_vertex = record { place = record { form = None; axis = None; point = record {
 -- 2, or 2+1/3
 abbrev pub coordinate : ℕ → Offset → List ℕ
 coordinate whole o =
-    cond (o.denominator == 0) (decimal whole)
-    (decimal whole ++ (codes "+" ++ (decimal o.numerator ++ (codes "/" ++ decimal o.denominator))))
+    if o.denominator == 0 then decimal whole
+    else decimal whole ++ (codes "+" ++ (decimal o.numerator ++ (codes "/" ++ decimal o.denominator)))
 
 abbrev pub coordinates : Vertex → List ℕ
 coordinates v =

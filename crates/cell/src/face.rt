@@ -153,7 +153,8 @@ impl Face {
         let size00 = self.g00.size();
         let size10 = self.g10.size();
         let size01 = self.g01.size();
-        let denominator = size00 + size10 + size01 + self.g11.size();
+        let size11 = self.g11.size();
+        let denominator = size00 + size10 + size01 + size11;
         Centre {
             first: Offset {
                 numerator: size00 + size01,

@@ -1,6 +1,7 @@
 -- The clipping of every tame set ends with nothing left, and its triangles fill the set.
 use Rattle.std.proofs.Common.{◌≡◌, ℕ, zero, suc, ◌+◌, ◌%◌, ◌<◌, ◌≤◌, true, ◌&&◌, eqb, ◌≢◌, ◌↔◌, List, [], ◌∷◌, length, refl, ⊎_elim, arith}
-use Rattle.std.specs.List.{AllByRecursion}
+use Rattle.std.specs.List.{All}
+use Rattle.std.proofs.lemmas.List.Elements.{All-nil, All-cons}
 use Rattle.std.proofs.lemmas.List.Sums.{sum_by-cons}
 use Rattle.std.proofs.lemmas.Bool.Decides.{nat_tests}
 use Rattle.std.proofs.lemmas.Bool.{cases_eq, cases_lt}
@@ -24,7 +25,7 @@ names_edges v a b x y p q r d = grind (arith, nat_tests)
 -- What the triangles are to the segments, with the parity in numbers.
 record Done (S : List Segment) (ts : List Triangle) : Type 0 where
   parity : (x y : ℕ) → x ≢ y → shared ts x y % 2 ≡ times S x y % 2
-  proper : AllByRecursion Proper ts
+  proper : All Proper ts
   named : (w : ℕ) → (0 < uses ts w) ↔ (0 < degree S w)
   few : 0 < length S → length ts + 2 ≤ length S
   empty : length S ≡ 0 → length ts ≡ 0
@@ -39,7 +40,7 @@ grow S v a b t f ts d = record {
       let r = times_rest S v a b t f x y in
       let ih = d.parity x y ne in
       ⊎_elim (λ p. omega arith) (λ p. omega arith) (toggle_times (strike (strike S v a) v b) a b x y);
-  proper = ((f.v≢a, f.v≢b, f.a<b, f.v_local, f.b_local), d.proper);
+  proper = All-cons Proper (v, a, b) ts (f.v≢a, f.v≢b, f.a<b, f.v_local, f.b_local) d.proper;
   named = λ w.
       let e = names_sum v a b w f.v≢a f.v≢b f.a<b in
       let c = sum_by-cons (λ (k : Triangle). bit (names_vertex w k)) (v, a, b) ts in
@@ -58,7 +59,7 @@ grow S v a b t f ts d = record {
 -- nothing is clipped from the empty set
 nothing : Done [] []
 unfolding shared uses times degree
-nothing = record { parity = λ x y ne. refl; proper = tt; named = λ w. (λ h. h, λ h. h); few = λ h. absurd (omega arith); empty = λ h. refl }
+nothing = record { parity = λ x y ne. refl; proper = All-nil Proper; named = λ w. (λ h. h, λ h. h); few = λ h. absurd (omega arith); empty = λ h. refl }
 
 -- enough turns clip everything
 clipped : (n : ℕ) (S : List Segment) → Tame S → length S ≤ n → (left n S ≡ []) × Done S (clip n S)

@@ -1,8 +1,8 @@
 -- The segments of a voxel off the level are tame.
 use Rattle.std.proofs.Common.{◌≡◌, ℕ, zero, suc, ◌+◌, ◌<◌, ◌≤◌, Bool, true, false, cond, not, ◌&&◌, T, eqb, ltb, leb, ◌≢◌, ◌⊎◌, List, [], ◌∷◌, length, get_or, ℤ, sym, refl, ap, ◌∙◌, subst, ap₂, inl, inr, ⊎_elim, add-zero, zero-add, arith, lit<, ltb→lt}
-use Rattle.std.specs.List.{AllByRecursion}
+use Rattle.std.specs.List.{All}
 use Rattle.std.proofs.lemmas.List.Sums.{sum_by-cons}
-use Rattle.std.proofs.ByRecursion.{All-get_or}
+use Rattle.std.proofs.lemmas.List.Elements.{All-from_recursion, All-get_or}
 use Rattle.std.proofs.lemmas.Bool.{and_parts, not-true, eqb-true, eqb-false, ne_eqb, ltb-true, leb-true, or_from, cases_Bool, cases_lt}
 use Rattle.cell.specs.Level.{sign}
 use Rattle.cell.specs.Face.{Δ}
@@ -89,7 +89,7 @@ unfolding Fine
 fine_four true = inr (inr refl)
 fine_four false = inl refl
 
-good_tame : (ss : List Segment) (ds : List ℕ) → length ds ≡ local_vertices → AllByRecursion Fine ds → good ss ds ≡ true → Tame ss
+good_tame : (ss : List Segment) (ds : List ℕ) → length ds ≡ local_vertices → All Fine ds → good ss ds ≡ true → Tame ss
 unfolding good Fine
 good_tame ss ds n fine h =
     let p = and_parts (degrees_are ss 0 ds) (distinct ss && (sound ss && leb (length ss) 24)) h in
@@ -138,7 +138,7 @@ module _ (g : ℕ → ℤ) (off : Off g) where
   unfolding wanted
   voxel_tame =
       good_tame (voxel_segments g) wanted refl
-      (fine_two _, (fine_two _, (fine_two _, (fine_two _, (fine_two _, (fine_two _, (fine_two _, (fine_two _, (fine_two _, (fine_two _, (fine_two _, (fine_two _, (fine_four _, (fine_four _, (fine_four _, (fine_four _, (fine_four _, (fine_four _, tt))))))))))))))))))
+      (All-from_recursion Fine wanted (fine_two _, (fine_two _, (fine_two _, (fine_two _, (fine_two _, (fine_two _, (fine_two _, (fine_two _, (fine_two _, (fine_two _, (fine_two _, (fine_two _, (fine_four _, (fine_four _, (fine_four _, (fine_four _, (fine_four _, (fine_four _, tt)))))))))))))))))))
       voxel_good
 
   at : (v : ℕ) → T (ltb v 18) → degree (voxel_segments g) v ≡ get_or wanted v 0

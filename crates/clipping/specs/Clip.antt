@@ -1,5 +1,5 @@
 -- The clipping of a set of segments into triangles: the last definition says which, and those above it how.
-use Rattle.std.specs.Prelude.{ℕ, zero, suc, Bool, false, cond, ◌&&◌, ◌||◌, List, [], ◌∷◌, length, count_by, filter, ◌==◌, nat_eq, nat_lt}
+use Rattle.std.specs.Prelude.{ℕ, zero, suc, Bool, false, if◌then◌else◌, ◌&&◌, ◌||◌, List, [], ◌∷◌, length, count_by, filter, ◌==◌, nat_eq, nat_lt}
 use Rattle.clipping.specs.Faces.{Segment, local_vertices, local_order}
 
 -- the apex v of a turn and its two lowest neighbours a < b
@@ -33,26 +33,26 @@ linked (s ∷ ss) u v = joins u v s || linked ss u v
 -- the set without the segment between two vertices
 unfoldable pub strike : List Segment → ℕ → ℕ → List Segment
 strike [] u v = []
-strike (s ∷ ss) u v = cond (joins u v s) ss (s ∷ strike ss u v)
+strike (s ∷ ss) u v = if joins u v s then ss else s ∷ strike ss u v
 
 -- the segment is struck if it was in the set, and entered if not
 unfoldable pub toggle : List Segment → ℕ → ℕ → List Segment
-toggle ss u v = cond (linked ss u v) (strike ss u v) ((u, v) ∷ ss)
+toggle ss u v = if linked ss u v then strike ss u v else (u, v) ∷ ss
 
 -- the lowest number below n that passes, or n if none does
 unfoldable pub lowest : (ℕ → Bool) → ℕ → ℕ
 lowest p zero = zero
 lowest p (suc n) =
     let k : ℕ = lowest p n in
-    let here : ℕ = cond (p n) n (suc n) in
-    cond (nat_lt k n) k here
+    let here : ℕ = if p n then n else suc n in
+    if nat_lt k n then k else here
 
 -- the lowest vertex on exactly two segments, or, if there is none, the lowest on four
 unfoldable pub apex : List Segment → ℕ
 apex ss =
     let two : ℕ = lowest (λ v. nat_eq (degree ss v) 2) local_vertices in
     let four : ℕ = lowest (λ v. nat_eq (degree ss v) 4) local_vertices in
-    cond (nat_lt two local_vertices) two four
+    if nat_lt two local_vertices then two else four
 
 -- the lowest neighbour of a vertex
 unfoldable pub neighbour : List Segment → ℕ → ℕ

@@ -1,6 +1,6 @@
 -- What holds of a set of segments before its clipping, and of the triangles afterwards.
-use Rattle.std.specs.Prelude.{◌≡◌, ℕ, ◌+◌, ◌%◌, ◌<◌, ◌≤◌, Bool, true, cond, not, ◌&&◌, ◌||◌, ◌≢◌, ◌⊎◌, ◌↔◌, List, [], length, ℤ, count_by, ◌==◌}
-use Rattle.std.specs.List.{AllByRecursion}
+use Rattle.std.specs.Prelude.{◌≡◌, ℕ, ◌+◌, ◌%◌, ◌<◌, ◌≤◌, Bool, true, if◌then◌else◌, not, ◌&&◌, ◌||◌, ◌≢◌, ◌⊎◌, ◌↔◌, List, [], length, ℤ, count_by, ◌==◌}
+use Rattle.std.specs.List.{All}
 use Rattle.clipping.specs.Faces.{Segment, corner, x_edge, y_edge, z_edge, across_x, across_y, across_z, local_vertices, Off, crossed, centred, voxel_segments}
 use Rattle.clipping.specs.Clip.{Triangle, degree, joins, linked, strike, lowest, neighbour, apex, left, triangles}
 
@@ -34,7 +34,7 @@ Proper t = (t.0 ≢ t.1) × (t.0 ≢ t.2) × (t.1 < t.2) × (t.0 < local_vertice
 -- What the triangles are to the segments: two vertices lie together on an odd number of triangles exactly when they are joined, the triangles name the vertices of the segments, and there are two fewer triangles than segments or still less.
 pub record Filled (ss : List Segment) (ts : List Triangle) : Type 0 where
   pub parity : (u v : ℕ) → u ≢ v → (shared ts u v % 2 ≡ 1) ↔ (linked ss u v ≡ true)
-  pub proper : AllByRecursion Proper ts
+  pub proper : All Proper ts
   pub named : (v : ℕ) → (0 < uses ts v) ↔ (0 < degree ss v)
   pub few : 0 < length ss → length ts + 2 ≤ length ss
 
@@ -44,12 +44,12 @@ Clips = (ss : List Segment) → Tame ss → (left (length ss) ss ≡ []) × Fill
 
 -- On how many of a voxel's segments its local vertices lie: a crossing on two, a centre on four.
 pub record Degrees (g : ℕ → ℤ) : Type 0 where
-  pub on_x : (dy dz : ℕ) → dy < 2 → dz < 2 → degree (voxel_segments g) (x_edge dy dz) ≡ cond (crossed g (corner 0 dy dz) (corner 1 dy dz)) 2 0
-  pub on_y : (dx dz : ℕ) → dx < 2 → dz < 2 → degree (voxel_segments g) (y_edge dx dz) ≡ cond (crossed g (corner dx 0 dz) (corner dx 1 dz)) 2 0
-  pub on_z : (dx dy : ℕ) → dx < 2 → dy < 2 → degree (voxel_segments g) (z_edge dx dy) ≡ cond (crossed g (corner dx dy 0) (corner dx dy 1)) 2 0
-  pub centre_x : (s : ℕ) → s < 2 → degree (voxel_segments g) (12 + s) ≡ cond (centred g (across_x s)) 4 0
-  pub centre_y : (s : ℕ) → s < 2 → degree (voxel_segments g) (14 + s) ≡ cond (centred g (across_y s)) 4 0
-  pub centre_z : (s : ℕ) → s < 2 → degree (voxel_segments g) (16 + s) ≡ cond (centred g (across_z s)) 4 0
+  pub on_x : (dy dz : ℕ) → dy < 2 → dz < 2 → degree (voxel_segments g) (x_edge dy dz) ≡ (if crossed g (corner 0 dy dz) (corner 1 dy dz) then 2 else 0)
+  pub on_y : (dx dz : ℕ) → dx < 2 → dz < 2 → degree (voxel_segments g) (y_edge dx dz) ≡ (if crossed g (corner dx 0 dz) (corner dx 1 dz) then 2 else 0)
+  pub on_z : (dx dy : ℕ) → dx < 2 → dy < 2 → degree (voxel_segments g) (z_edge dx dy) ≡ (if crossed g (corner dx dy 0) (corner dx dy 1) then 2 else 0)
+  pub centre_x : (s : ℕ) → s < 2 → degree (voxel_segments g) (12 + s) ≡ (if centred g (across_x s) then 4 else 0)
+  pub centre_y : (s : ℕ) → s < 2 → degree (voxel_segments g) (14 + s) ≡ (if centred g (across_y s) then 4 else 0)
+  pub centre_z : (s : ℕ) → s < 2 → degree (voxel_segments g) (16 + s) ≡ (if centred g (across_z s) then 4 else 0)
 
 -- the most segments and the most triangles that a voxel has
 abbrev pub most_segments : ℕ

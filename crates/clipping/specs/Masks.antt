@@ -1,5 +1,5 @@
 -- A set of segments as a mask for each local vertex: bit u of mask v is set where the segment between u and v is in the set.
-use Rattle.std.specs.Prelude.{◌≡◌, ℕ, ◌/◌, ◌%◌, ◌^◌, ◌<◌, ◌≤◌, cond, ltb, List, [], ◌∷◌, length, replicate, filter, bit_xor, count_ones, nat_eq, nat_lt, slice_index, slice_set}
+use Rattle.std.specs.Prelude.{◌≡◌, ℕ, ◌/◌, ◌%◌, ◌^◌, ◌<◌, ◌≤◌, if◌then◌else◌, ltb, List, [], ◌∷◌, length, replicate, filter, bit_xor, count_ones, nat_eq, nat_lt, slice_index, slice_set}
 use Rattle.clipping.specs.Faces.{Segment, local_vertices, local_order}
 use Rattle.clipping.specs.Clip.{Triangle, degree, lowest, triangles}
 use Rattle.clipping.specs.Laws.{times, Tame, most_segments}
@@ -39,7 +39,7 @@ abbrev pub apex_of : List ℕ → ℕ
 apex_of xs =
     let two : ℕ = lowest (λ v. nat_eq (count_ones (slice_index xs v)) 2) local_vertices in
     let four : ℕ = lowest (λ v. nat_eq (count_ones (slice_index xs v)) 4) local_vertices in
-    cond (nat_lt two local_vertices) two four
+    if nat_lt two local_vertices then two else four
 
 -- the vertices whose mask is not empty, in local order
 abbrev pub used_in : List ℕ → List ℕ

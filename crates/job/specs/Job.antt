@@ -1,5 +1,5 @@
 -- What the bytes of a job say, and which bytes are declined.
-use Rattle.std.specs.Prelude.{◌≡◌, ℕ, suc, ◌+◌, ◌-◌, ◌^◌, cond, List, length, drop, ℤ, pos, negsuc, Some, None, Option, ◌==◌, nat_lt}
+use Rattle.std.specs.Prelude.{◌≡◌, ℕ, suc, ◌+◌, ◌-◌, ◌^◌, if◌then◌else◌, List, length, drop, ℤ, pos, negsuc, Some, None, Option, ◌==◌, nat_lt}
 use Rattle.block.specs.Bits.{field}
 use Rattle.block.specs.Packed.{block_of_bytes, packed_told, packed_declined}
 use Rattle.block.specs.Refusals.{Told, plain, or_else}
@@ -9,14 +9,14 @@ use Rattle.job.specs.declared.Job.{Job}
 
 -- the header's bit fields: the kind, 1 for voxels; p in 26 bits; q less one in 8; five spare bits
 abbrev pub kind_of : ℕ → CellKind
-kind_of bit = cond (bit == 1) Voxel Pixel
+kind_of bit = if bit == 1 then Voxel else Pixel
 
 abbrev pub job_kind : List ℕ → CellKind
 job_kind bytes = kind_of (field bytes 0 1)
 
 -- a number of w bits in two's complement
 abbrev pub twos_complement : ℕ → ℕ → ℤ
-twos_complement w n = cond (nat_lt n (2 ^ (w - 1))) (pos n) (negsuc (2 ^ w - suc n))
+twos_complement w n = if nat_lt n (2 ^ (w - 1)) then pos n else negsuc (2 ^ w - suc n)
 
 abbrev pub job_p : List ℕ → ℤ
 job_p bytes = twos_complement 26 (field bytes 1 26)
@@ -37,6 +37,6 @@ pub record Decodes (bytes : List ℕ) (j : Job) : Type 0 where
 -- the refusal of a job, if any: a length that is wrong anywhere comes before a spare bit anywhere
 abbrev pub job_declined : List ℕ → Option Told
 job_declined bytes =
-    cond (nat_lt 1024 (length bytes)) (Some (plain 2))
-    (cond (nat_lt (length bytes) 5) (Some (plain 2))
-    (or_else (packed_declined (drop 5 bytes)) (cond (job_spare bytes == 0) None (Some (plain 3)))))
+    if nat_lt 1024 (length bytes) then Some (plain 2)
+    else if nat_lt (length bytes) 5 then Some (plain 2)
+    else or_else (packed_declined (drop 5 bytes)) (if job_spare bytes == 0 then None else Some (plain 3))

@@ -1,9 +1,9 @@
 // A job, as a buyer sends it: which cells to cut, at which level, of which block.
 #![tactic(auto)]
 
-ghost use Rattle.std.specs.Prelude.{◌≡◌, ◌^◌, ◌<◌, nat_lt};
+ghost use Rattle.std.specs.Prelude.{◌≡◌, ◌^◌, ◌<◌};
 ghost use Rattle.block.specs.Refusals.{Outcome};
-ghost use Rattle.job.specs.Job.{Decodes, job_declined, job_kind, job_p, job_q, job_spare, kind_of, twos_complement};
+ghost use Rattle.job.specs.Job.{Decodes, job_declined, job_kind, job_p, job_q, job_spare, twos_complement};
 
 use block::bits::bits;
 use block::packed::Packed;
@@ -12,7 +12,7 @@ use block::refusal::Refusal;
 // The most bytes that a job has.
 pub const LONGEST: usize = 1024;
 
-#[derive(Clone, Copy)]
+#[derive(Clone, Copy, PartialEq, Eq, Debug)]
 pub enum CellKind {
     // Unit squares in the planes of the block, cut into segments.
     Pixel,
@@ -33,7 +33,7 @@ impl<'a> Job<'a> {
     pub fn decode(bytes: &'a [u8]) -> Result<Job<'a>, Refusal>
         ensures answer { Outcome (job_declined bytes.now) (Decodes bytes.now) result }
     {
-        if is_too_long(bytes.len()) {
+        if bytes.len() > LONGEST {
             return Err(Refusal::Length);
         }
         let [b0, b1, b2, b3, b4, rest @ ..] = bytes else {
@@ -69,8 +69,12 @@ impl Header {
         ensures q { result.q ≡ job_q bytes.now }
         ensures spare { result.spare ≡ job_spare bytes.now }
     {
+        let kind = match bits(bytes, 0, 1) {
+            1 => CellKind::Voxel,
+            _ => CellKind::Pixel,
+        };
         Header {
-            kind: kind_of(bits(bytes, 0, 1)),
+            kind,
             p: signed(bits(bytes, 1, 26)),
             q: bits(bytes, 27, 8) + 1,
             spare: bits(bytes, 35, 5),
@@ -78,23 +82,7 @@ impl Header {
     }
 }
 
-fn is_too_long(length: usize) -> bool
-    ensures answer { result ≡ nat_lt 1024 length }
-{
-    length > LONGEST
-}
-
-fn kind_of(bit: u32) -> CellKind
-    ensures answer { result ≡ kind_of bit }
-{
-    if bit == 1 {
-        CellKind::Voxel
-    } else {
-        CellKind::Pixel
-    }
-}
-
-// A number of 26 bits in two's complement.
+// A number of 26 bits in two's complement. No type has so many bits, so the sign is taken off by hand.
 fn signed(n: u32) -> i32
     requires { n < 2 ^ 26 }
     ensures answer { result ≡ twos_complement 26 n }

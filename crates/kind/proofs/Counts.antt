@@ -1,6 +1,6 @@
 -- How many elements of a list pass a test.
 use Rattle.std.proofs.Common.{◌≡◌, ℕ, ◌+◌, ◌<◌, Bool, true, cond, List, [], ◌∷◌, map, count_by, sym, refl, ap, ◌∙◌, ap₂, ⊎_elim, arith}
-use Rattle.std.specs.List.{ContainsAt as Has}
+use Rattle.std.specs.List.{Contains}
 use Rattle.std.proofs.lemmas.List.Sums.{sum_by-cons}
 use Rattle.std.proofs.lemmas.Bool.{cases_Bool}
 use Rattle.kind.proofs.Members.{has_none, has_here, has_there, has_cases}
@@ -13,7 +13,7 @@ module _ {X : Type 0} (p : X → Bool) where
   count_cons x xs = sum_by-cons (λ y. one_if (p y)) x xs
 
   -- some element passes where the count is not 0, and conversely
-  pub counted : (xs : List X) → 0 < count_by p xs → (x : X) × Has xs x × (p x ≡ true)
+  pub counted : (xs : List X) → 0 < count_by p xs → (x : X) × Contains xs x × (p x ≡ true)
   counted [] h = absurd (omega arith)
   counted (x ∷ xs) h =
       ⊎_elim
@@ -24,7 +24,7 @@ module _ {X : Type 0} (p : X → Bool) where
       (rest.0, has_there x xs rest.0 rest.1, rest.2))
       (cases_Bool (p x))
 
-  pub has_counted : (xs : List X) (x : X) → Has xs x → p x ≡ true → 0 < count_by p xs
+  pub has_counted : (xs : List X) (x : X) → Contains xs x → p x ≡ true → 0 < count_by p xs
   has_counted [] x h t = absurd (has_none x h)
   has_counted (y ∷ xs) x h t =
       ⊎_elim

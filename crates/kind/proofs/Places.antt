@@ -1,6 +1,7 @@
 -- What the tests of places decide: that two are equal, or that a list has one.
 use Rattle.std.proofs.Common.{◌≡◌, Bool, true, false, ◌&&◌, eqb, ◌⊎◌, List, Some, None, Decides, Option, sym, refl, inl, inr, ⊎_elim}
-use Rattle.std.specs.List.{ContainsAt as Has}
+use Rattle.std.specs.List.{Contains}
+use Rattle.std.proofs.lemmas.List.Elements.{Decides-contains}
 use Rattle.std.proofs.lemmas.Bool.{false≢true, both_ways, cases_Bool, eqb-true, eq-eqb, and_parts, and_from}
 use Rattle.std.proofs.lemmas.Bool.Decides.{Decides-by_or}
 use Rattle.kind.specs.Meaning.{same_axis, same_form, same_point, same_place, names}
@@ -72,11 +73,12 @@ same_place_decides p q = (equal, λ e. rw (← e) self)
     self = from_parts (same_form p.form p.form) (same_axis p.axis p.axis) (same_point p.point p.point) (same_form_self p.form) (same_axis_self p.axis) (same_point_self p.point)
 
 -- a list of places names a place exactly if it has it
-pub names_decides : (ps : List Place) (p : Place) → Decides (names ps p) (Has ps p)
-names_decides ps p = Decides-by_or (λ q. same_place q p) (λ q. q ≡ p) (λ qs. names qs p) (λ q. same_place_decides q p) refl (λ _ _. refl) ps
+pub names_decides : (ps : List Place) (p : Place) → Decides (names ps p) (Contains ps p)
+names_decides ps p =
+    Decides-contains ps p (names ps p) (Decides-by_or (λ q. same_place q p) (λ q. q ≡ p) (λ qs. names qs p) (λ q. same_place_decides q p) refl (λ _ _. refl) ps)
 
 -- a list of places has a place or not
-pub has_or_not : (ps : List Place) (p : Place) → Has ps p ⊎ (Has ps p → ⊥)
+pub has_or_not : (ps : List Place) (p : Place) → Contains ps p ⊎ (Contains ps p → ⊥)
 has_or_not ps p =
     ⊎_elim (λ h. inl ((names_decides ps p).0 h)) (λ h. inr (λ k. both_ways (names ps p) h ((names_decides ps p).1 k))) (cases_Bool (names ps p))
 

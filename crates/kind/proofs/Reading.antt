@@ -1,6 +1,7 @@
 -- A position that is not declined is a cell that can be read, and its corners are off the level.
 use Rattle.std.proofs.Common.{◌≡◌, ℕ, Bool, true, false, cond, List, [], ◌∷◌, ℤ, Some, None, Ok, Err, Option, Result, refl, arith}
-use Rattle.std.specs.List.{AllByRecursion}
+use Rattle.std.specs.List.{All}
+use Rattle.std.proofs.lemmas.List.Elements.{All-nil, All-cons}
 use Rattle.block.specs.Block.{Block}
 use Rattle.block.specs.Refusals.{Told, told}
 use Rattle.block.specs.declared.fault.Fault.{Fault}
@@ -35,7 +36,12 @@ pub both_none : (o rest : Option Told) → ◌≡◌ {A = Option Told} (elim o [
 both_none None rest h = (refl, h)
 both_none (Some t) rest h = absurd (some_none t h)
 
-pub all_off : (b : Block) (l : Level) (ps : List Point) → corners_declined b l ps ≡ None → AllByRecursion (λ p. on_level (corner_height b l p) ≡ false) ps
-all_off b l [] h = tt
+-- the corner at a place is off the level
+abbrev pub IsOff : Block → Level → Point → Type 0
+IsOff b l p = on_level (corner_height b l p) ≡ false
+
+pub all_off : (b : Block) (l : Level) (ps : List Point) → corners_declined b l ps ≡ None → All (IsOff b l) ps
+all_off b l [] h = All-nil (IsOff b l)
 all_off b l (p ∷ ps) h =
-    let k = both_none (corner_declined b l p) (corners_declined b l ps) h in (serves_off l p (b.at p) k.0, all_off b l ps k.1)
+    let k = both_none (corner_declined b l p) (corners_declined b l ps) h in
+    All-cons (IsOff b l) p ps (serves_off l p (b.at p) k.0) (all_off b l ps k.1)

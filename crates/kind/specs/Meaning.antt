@@ -1,6 +1,6 @@
 -- What a kind of cell means, and the laws that every kind shows.
-use Rattle.std.specs.Prelude.{◌≡◌, ℕ, suc, ◌%◌, Bool, true, false, cond, ◌&&◌, ◌||◌, ◌⊎◌, ◌↔◌, List, [], ◌∷◌, map, length, Some, None, count_by, Option, ◌==◌}
-use Rattle.std.specs.List.{ContainsAt as Has}
+use Rattle.std.specs.Prelude.{◌≡◌, ℕ, suc, ◌%◌, Bool, true, false, if◌then◌else◌, ◌&&◌, ◌||◌, ◌⊎◌, ◌↔◌, List, [], ◌∷◌, map, length, Some, None, count_by, Option, ◌==◌}
+use Rattle.std.specs.List.{Contains}
 use Rattle.block.specs.Block.{Block}
 use Rattle.block.specs.Refusals.{Told, told}
 use Rattle.block.specs.declared.lattice.Point.{Point}
@@ -50,7 +50,7 @@ Odd n = n % 2 ≡ 1
 
 abbrev pub Distinct : {X : Type 0} → List X → Type 0
 Distinct [] = Unit {0}
-Distinct (x ∷ xs) = (Has xs x → ⊥) × Distinct xs
+Distinct (x ∷ xs) = (Contains xs x → ⊥) × Distinct xs
 
 -- two vertices are the same when form, axis and point are
 abbrev pub same_axis : Option Axis → Option Axis → Bool
@@ -94,7 +94,7 @@ on (v ∷ j) piece = names piece v && on j piece
 
 -- the same vertices, in any order
 abbrev pub SameJoint : Joint → Joint → Type 0
-SameJoint i j = (p : Place) → Has i p ↔ Has j p
+SameJoint i j = (p : Place) → Contains i p ↔ Contains j p
 
 abbrev pub IsJoint : Meaning → Joint → Type 0
 IsJoint m j = (suc (length j) ≡ m.arity) × Distinct j
@@ -102,28 +102,28 @@ IsJoint m j = (suc (length j) ≡ m.arity) × Distinct j
 module _ (m : Meaning) (b : Block) (l : Level) where
   -- a joint is a cut of a side
   abbrev pub CutOf : Side → Joint → Type 0
-  CutOf s j = (i : Joint) × Has (m.cuts b l s) i × SameJoint i j
+  CutOf s j = (i : Joint) × Contains (m.cuts b l s) i × SameJoint i j
 
   -- a joint is a cut of one of a cell's sides
   abbrev pub CutOfCell : Point → Joint → Type 0
-  CutOfCell c j = (s : Side) × Has (m.sides c) s × CutOf s j
+  CutOfCell c j = (s : Side) × Contains (m.sides c) s × CutOf s j
 
 -- why a position is not read, if it is not
 abbrev pub cell_declined : Meaning → Block → Level → Point → Option Told
-cell_declined m b l c = cond (m.cell b.sizes c) (corners_declined b l (m.corners c)) (Some (told NoCell))
+cell_declined m b l c = if m.cell b.sizes c then corners_declined b l (m.corners c) else Some (told NoCell)
 
 -- The laws speak of cells that can be read. That a side's cuts depend on nothing but block, level and side stands in the type of `cuts`.
 pub record Laws (m : Meaning) : Type 0 where
   -- a joint lies on an odd number of the cell's pieces exactly when it is a cut of one of its sides
   pub parity : (b : Block) (l : Level) (c : Point) (j : Joint) → Readable m b l c → IsJoint m j → Odd (count_by (on j) (m.pieces b l c)) ↔ CutOfCell m b l c j
   -- no joint is a cut of two sides
-  pub one_side : (b : Block) (l : Level) (c d : Point) (s t : Side) (j : Joint) → Readable m b l c → Readable m b l d → Has (m.sides c) s → Has (m.sides d) t → CutOf m b l s j → CutOf m b l t j → s ≡ t
+  pub one_side : (b : Block) (l : Level) (c d : Point) (s t : Side) (j : Joint) → Readable m b l c → Readable m b l d → Contains (m.sides c) s → Contains (m.sides d) t → CutOf m b l s j → CutOf m b l t j → s ≡ t
   -- a side belongs to at most two cells
-  pub two_cells : (n : Sizes) (c d e : Point) (s : Side) → m.cell n c ≡ true → m.cell n d ≡ true → m.cell n e ≡ true → Has (m.sides c) s → Has (m.sides d) s → Has (m.sides e) s → (c ≡ d) ⊎ (d ≡ e) ⊎ (c ≡ e)
+  pub two_cells : (n : Sizes) (c d e : Point) (s : Side) → m.cell n c ≡ true → m.cell n d ≡ true → m.cell n e ≡ true → Contains (m.sides c) s → Contains (m.sides d) s → Contains (m.sides e) s → (c ≡ d) ⊎ (d ≡ e) ⊎ (c ≡ e)
   -- no two vertices of a cell are the same, and its pieces name all of them and no others
   pub apart : (b : Block) (l : Level) (c : Point) → Readable m b l c → Distinct (places_of (m.vertices b l c))
-  pub named : (b : Block) (l : Level) (c : Point) (p : Place) → Readable m b l c → Has (places_of (m.vertices b l c)) p ↔ ((q : Piece) × Has (m.pieces b l c) q × Has q p)
+  pub named : (b : Block) (l : Level) (c : Point) (p : Place) → Readable m b l c → Contains (places_of (m.vertices b l c)) p ↔ ((q : Piece) × Contains (m.pieces b l c) q × Contains q p)
   -- a vertex's offsets depend on the block, the level and its place alone
-  pub offsets : (b : Block) (l : Level) (c d : Point) (v w : Vertex) → Readable m b l c → Readable m b l d → Has (m.vertices b l c) v → Has (m.vertices b l d) w → v.place ≡ w.place → v ≡ w
+  pub offsets : (b : Block) (l : Level) (c d : Point) (v w : Vertex) → Readable m b l c → Readable m b l d → Contains (m.vertices b l c) v → Contains (m.vertices b l d) w → v.place ≡ w.place → v ≡ w
   -- each side of a cell is listed once
   pub sides_once : (c : Point) → Distinct (m.sides c)

@@ -1,5 +1,5 @@
 -- What a cell that was read holds, compared with what its kind means.
-use Rattle.std.specs.Prelude.{ℕ, suc, cond, List, [], ◌∷◌, map, Some, None, Option}
+use Rattle.std.specs.Prelude.{ℕ, suc, if◌then◌else◌, List, [], ◌∷◌, map, Some, None, Option}
 use Rattle.std.specs.List.{slice_get}
 use Rattle.block.specs.Block.{Block}
 use Rattle.block.specs.declared.lattice.Point.{Point}
@@ -14,7 +14,7 @@ use Rattle.kind.specs.declared.joint.Joint.{Joint as JointOfTwo}
 -- the number of a place among vertices, counted from 1; one more than there are where it is not among them
 abbrev pub number : List Vertex → Place → ℕ
 number [] p = 1
-number (v ∷ vs) p = cond (same_place v.place p) 1 (suc (number vs p))
+number (v ∷ vs) p = if same_place v.place p then 1 else suc (number vs p)
 
 -- a cell's pieces by the numbers of its own vertices
 abbrev pub local_pieces : Meaning → Block → Level → Point → List (List ℕ)
@@ -38,4 +38,4 @@ cut_at borders side n = elim (slice_get borders side) [ Some s ↦ slice_get s.1
 
 -- the corner with a number of a cell
 abbrev pub corner_at : Meaning → Sizes → Point → ℕ → Option Point
-corner_at m sizes at n = cond (m.cell sizes at) (slice_get (m.corners at) n) None
+corner_at m sizes at n = if m.cell sizes at then slice_get (m.corners at) n else None

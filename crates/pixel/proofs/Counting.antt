@@ -1,17 +1,15 @@
 -- The contours of one pixel more, and a refusal that stays.
-use Rattle.std.proofs.Common.{◌≡◌, ℕ, zero, suc, ◌+◌, ◌-◌, ◌<◌, ◌≤◌, length, Some, None, Option, unwrap_or, ap, ◌∙◌, add-zero, add-suc, add-one, arith, length-append}
+use Rattle.std.proofs.Common.{◌≡◌, ℕ, zero, suc, ◌+◌, ◌-◌, ◌≤◌, length, Some, None, Option, ap, ◌∙◌, add-zero, add-suc, add-one, arith, length-append}
 use lib.ListN.{length-map}
-use Rattle.std.proofs.lemmas.Bool.{lt-ltb, cond-true}
 use Rattle.block.specs.Block.{Block}
 use Rattle.block.specs.Refusals.{Told, or_else}
 use Rattle.block.specs.declared.lattice.Point.{Point}
-use Rattle.block.specs.declared.lattice.Sizes.{Sizes}
 use Rattle.cell.specs.declared.level.Level.{Level}
 use Rattle.cell.specs.Face.{face_segments}
 use Rattle.kind.specs.Meaning.{cell_declined}
 use Rattle.pixel_theory.specs.Kind.{pixel, segment_places, place_of}
 use Rattle.pixel_theory.specs.Pixel.{at_pixel}
-use Rattle.pixel.specs.Pixels.{pixel_count, pixel_numbered, pixel_at, contours, contours_declined}
+use Rattle.pixel.specs.Pixels.{pixel_numbered, contours, contours_declined}
 
 -- a pixel has as many pieces as its face has segments
 pub piece_count : (b : Block) (l : Level) (at : Point) → length (pixel.pieces b l at) ≡ length (at_pixel face_segments b l at)
@@ -30,8 +28,3 @@ module _ (b : Block) (l : Level) where
 
   pub stays : (k n : ℕ) (t : Told) → k ≤ n → contours_declined b l k ≡ Some t → contours_declined b l n ≡ Some t
   stays k n t h e = let same : n ≡ k + (n - k) = omega arith in ap (contours_declined b l) same ∙ stays_by k (n - k) t e
-
--- the pixel with a number below the count
-pub at_numbered : (n m : Sizes) (i : ℕ) (at : Point) → n ≡ m → i < pixel_count n → Some at ≡ pixel_at n i → at ≡ pixel_numbered m i
-at_numbered n m i at same below e =
-    ap (λ o. unwrap_or o at) (e ∙ cond-true _ _ _ (lt-ltb i (pixel_count n) below)) ∙ ap (λ k. pixel_numbered k i) same

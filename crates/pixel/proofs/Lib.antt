@@ -1,4 +1,6 @@
 pub mod Borders
+pub mod Corners
 pub mod Counting
 pub mod Held
+pub mod Listing
 pub mod Places

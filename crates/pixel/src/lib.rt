@@ -5,4 +5,5 @@ mod contour;
 pub mod pixel;
 pub mod pixels;
 pub mod shape;
+mod square;
 pub mod survey;

@@ -1,7 +1,6 @@
 // All pixels of a block, in order.
 ghost use Rattle.std.specs.Prelude.{◌≡◌, ◌-◌, ◌<◌, true};
 ghost use Rattle.block.specs.Lattice.{all_allowed};
-ghost use Rattle.pixel.specs.Pixels.{pixel_count, pixel_numbered, pixel_at};
 
 use block::lattice::{Point, Sizes};
 use block::source::Source;
@@ -14,6 +13,8 @@ pub struct Pixels {
 }
 
 impl Pixels {
+    ghost use Rattle.pixel.specs.Pixels.{pixel_count, pixel_numbered, pixel_at, all_pixels, pixels_left};
+
     pub fn of<S: Source>(source: &S) -> Pixels
         ensures answer { result.sizes ≡ (S.Source.block source.now).sizes }
     {
@@ -36,6 +37,15 @@ impl Pixels {
             Some(self.numbered(i))
         } else {
             None
+        }
+    }
+
+    pub fn iter(&self) -> Iter
+        ensures answer { pixels_left result ≡ all_pixels self.now.sizes }
+    {
+        Iter {
+            pixels: *self,
+            next: 0,
         }
     }
 
@@ -65,5 +75,29 @@ impl Pixels {
             y: (i / across % down) as u32,
             z: (i / across / down) as u32,
         }
+    }
+}
+
+// The pixels that are still to come, in order.
+#[derive(Clone, Copy)]
+pub struct Iter {
+    pixels: Pixels,
+    next: usize,
+}
+
+impl Iterator for Iter {
+    ghost use Rattle.std.specs.Iterator.{YieldsFirst, item_count};
+    ghost use Rattle.pixel.specs.Pixels.{pixels_left};
+
+    type Item = Point;
+
+    ghost next_gives = { YieldsFirst pixels_left };
+
+    ghost remaining = { item_count pixels_left };
+
+    fn next(&mut self) -> Option<Point> {
+        let at = self.pixels.at(self.next)?;
+        self.next += 1;
+        Some(at)
     }
 }

@@ -6,13 +6,12 @@ ghost use Rattle.pixel_theory.specs.Kind.{pixel};
 
 use crate::contour::Contour;
 pub use crate::contour::PixelShape;
-use crate::pixel::is_pixel;
+use crate::square::{Square, is_pixel};
 use block::lattice::{Point, Sizes};
 use block::refusal::Refusal;
 use block::source::Source;
-use cell::face::FacePoint;
 use cell::level::Level;
-use cell::vertex::{Axis, Side, Vertex};
+use cell::vertex::{Side, Vertex};
 use kind::joint::Joint;
 use kind::kind::{Kind, Shape};
 use kind::segment::Segment;
@@ -33,8 +32,7 @@ impl Shape<Segment> for PixelShape {
     }
 
     fn pieces(&self) -> &[Segment] {
-        let n = self.contour.cut.count();
-        &self.segments[0..n]
+        self.contour.segments()
     }
 
     fn side(&self, n: usize) -> Option<Side> {
@@ -62,28 +60,7 @@ impl Kind for Pixel {
     }
 
     fn corner(&self, sizes: Sizes, at: Point, n: usize) -> Option<Point> {
-        if !is_pixel(sizes, at) {
-            return None;
-        }
-        match n {
-            0 => Some(at),
-            1 => Some(Point {
-                x: at.x + 1,
-                y: at.y,
-                z: at.z,
-            }),
-            2 => Some(Point {
-                x: at.x,
-                y: at.y + 1,
-                z: at.z,
-            }),
-            3 => Some(Point {
-                x: at.x + 1,
-                y: at.y + 1,
-                z: at.z,
-            }),
-            _ => None,
-        }
+        Square::new(sizes, at)?.corners().get(n).copied()
     }
 
     fn read<S: Source>(&self, source: &S, level: Level, at: Point) -> Result<PixelShape, Refusal> {
@@ -91,7 +68,6 @@ impl Kind for Pixel {
         Ok(PixelShape {
             contour,
             vertices: contour.vertices(),
-            segments: contour.segments(),
         })
     }
 }

@@ -22,18 +22,13 @@ impl Survey {
         ensures answer { Outcome (contours_declined (S.Source.block source.now) level (pixel_count (S.Source.block source.now).sizes)) (Surveyed (S.Source.block source.now) level) result }
     {
         let pixels = Pixels::of(source);
-        let count = pixels.count();
         let mut segments = 0;
-        for i in 0..count {
-            let Some(at) = pixels.at(i) else {
-                // The count is that of the pixels.
-                unreachable()
-            };
+        for at in pixels.iter() {
             segments += Contour::read(source, level, at)?.cut.count();
         }
         Ok(Survey {
             planes: source.sizes().z,
-            pixels: count,
+            pixels: pixels.count(),
             segments,
         })
     }

@@ -1,8 +1,10 @@
 -- Pixels keep every law of kinds.
-use Rattle.std.proofs.Common.{◌≡◌, ℕ, ◌+◌, ◌<◌, Bool, true, false, cond, ◌&&◌, ◌||◌, ◌⊎◌, ◌↔◌, List, [], ◌∷◌, map, ℤ, Some, None, Decides, count_by, filter, unwrap_or, sym, refl, ap, ◌∙◌, subst, ap₂, inl, inr, ⊎_elim, arith}
-use Rattle.std.specs.List.{ContainsAt as Has}
+use Rattle.std.proofs.Common.{◌≡◌, ℕ, ◌+◌, ◌<◌, Bool, true, false, cond, ◌||◌, ◌⊎◌, ◌↔◌, List, [], ◌∷◌, map, ℤ, Some, None, Decides, count_by, filter, unwrap_or, sym, refl, ap, ◌∙◌, subst, ap₂, inl, inr, ⊎_elim, arith}
+use Rattle.std.specs.List.{Contains}
 use Rattle.std.proofs.lemmas.Bool.{false≢true, and_parts, and_from}
 use Rattle.std.proofs.lemmas.Bool.Decides.{Decides-by_or}
+use Rattle.std.proofs.Math.Bool.{and-true}
+use Rattle.std.proofs.lemmas.List.Elements.{Decides-contains}
 use Rattle.block.specs.Block.{Block}
 use Rattle.block.specs.declared.lattice.Point.{Point}
 use Rattle.cell.specs.Corner.{corner_height}
@@ -72,12 +74,12 @@ abbrev among : List FacePoint → FacePoint → Bool
 among [] x = false
 among (y ∷ ys) x = same y x || among ys x
 
-among_decides : (ys : List FacePoint) (x : FacePoint) → Decides (among ys x) (Has ys x)
+among_decides : (ys : List FacePoint) (x : FacePoint) → Decides (among ys x) (Contains ys x)
 among_decides ys x =
-    Decides-by_or (λ y. same y x) (λ y. y ≡ x) (λ zs. among zs x)
-    (λ y. (same_is y x, λ e. subst (λ w. same y w ≡ true) e (same_self y))) refl (λ _ _. refl) ys
+    Decides-contains ys x (among ys x) (Decides-by_or (λ y. same y x) (λ y. y ≡ x) (λ zs. among zs x)
+    (λ y. (same_is y x, λ e. subst (λ w. same y w ≡ true) e (same_self y))) refl (λ _ _. refl) ys)
 
-every_point : (x : FacePoint) → Has face_points x
+every_point : (x : FacePoint) → Contains face_points x
 every_point P0 = (among_decides face_points P0).0 refl
 every_point P1 = (among_decides face_points P1).0 refl
 every_point P2 = (among_decides face_points P2).0 refl
@@ -130,10 +132,6 @@ lies_present g00 g10 g01 g11 P2 h = from_positive _ h
 lies_present g00 g10 g01 g11 P3 h = from_positive _ h
 lies_present g00 g10 g01 g11 C h = from_four _ h
 
-and-true : (t : Bool) → (t && true) ≡ t
-and-true true = refl
-and-true false = refl
-
 -- ---- one pixel of a block at a level
 module _ (b : Block) (l : Level) (c : Point) where
   abbrev segments : List FaceSegment
@@ -161,22 +159,22 @@ module _ (b : Block) (l : Level) (c : Point) where
         ∙ count_touches (corner_height b l c) (corner_height b l (next_x c)) (corner_height b l (next_y c)) (corner_height b l (next_x (next_y c))) (reads_off b l c r) x
 
     -- a place that a piece names is that of a point
-    named_point : (q : Piece) (p : Place) → Has pieces q → Has q p → (x : FacePoint) × (place_of c x ≡ p)
+    named_point : (q : Piece) (p : Place) → Contains pieces q → Contains q p → (x : FacePoint) × (place_of c x ≡ p)
     named_point q p h k =
         let m = map_has (segment_places (place_of c)) segments q h in
         let s = m.0 in
         ⊎_elim (λ e. (s.0, e))
         (λ t. ⊎_elim (λ e. (s.1, e)) (λ n. absurd (has_none p n)) (has_cases (place_of c s.1) [] p t))
-        (has_cases (place_of c s.0) (place_of c s.1 ∷ []) p (subst (λ w. Has w p) (sym m.2) k))
+        (has_cases (place_of c s.0) (place_of c s.1 ∷ []) p (subst (λ w. Contains w p) (sym m.2) k))
 
     -- a point is a vertex exactly where some piece names it
-    present_named : (x : FacePoint) → at_pixel present b l c x ≡ true → (q : Piece) × Has pieces q × Has q (place_of c x)
+    present_named : (x : FacePoint) → at_pixel present b l c x ≡ true → (q : Piece) × Contains pieces q × Contains q (place_of c x)
     present_named x h =
         let some : 0 < count_by (on (place_of c x ∷ [])) pieces = subst (λ n. 0 < n) (sym (count_is x)) (present_lies (corner_height b l c) (corner_height b l (next_x c)) (corner_height b l (next_y c)) (corner_height b l (next_x (next_y c))) x h) in
         let t = counted (on (place_of c x ∷ [])) pieces some in
         (t.0, t.1, (names_decides t.0 (place_of c x)).0 (and_parts (names t.0 (place_of c x)) true t.2).0)
 
-    named_present : (x : FacePoint) (q : Piece) → Has pieces q → Has q (place_of c x) → at_pixel present b l c x ≡ true
+    named_present : (x : FacePoint) (q : Piece) → Contains pieces q → Contains q (place_of c x) → at_pixel present b l c x ≡ true
     named_present x q h k =
         let t : on (place_of c x ∷ []) q ≡ true = and_from (names q (place_of c x)) true ((names_decides q (place_of c x)).1 k) refl in
         lies_present (corner_height b l c) (corner_height b l (next_x c)) (corner_height b l (next_y c)) (corner_height b l (next_x (next_y c))) x (subst (λ n. 0 < n) (count_is x) (has_counted (on (place_of c x ∷ [])) pieces q h t))
@@ -200,31 +198,31 @@ module _ (b : Block) (l : Level) (c : Point) where
   pixel_apart = subst Distinct (sym (places_are kept)) (distinct_kept (place_of c) (at_pixel present b l c) face_points (distinct_map (place_of c) (place_inj c) face_points points_distinct))
 
   module _ (r : Readable pixel b l c) where
-    pub pixel_named : (p : Place) → Has (places_of (pixel.vertices b l c)) p ↔ ((q : Piece) × Has pieces q × Has q p)
+    pub pixel_named : (p : Place) → Contains (places_of (pixel.vertices b l c)) p ↔ ((q : Piece) × Contains pieces q × Contains q p)
     pixel_named p = (to, from)
       where
-        to : Has (places_of (pixel.vertices b l c)) p → (q : Piece) × Has pieces q × Has q p
+        to : Contains (places_of (pixel.vertices b l c)) p → (q : Piece) × Contains pieces q × Contains q p
         to h =
-            let m = map_has (place_of c) kept p (subst (λ ps. Has ps p) (places_are kept) h) in
+            let m = map_has (place_of c) kept p (subst (λ ps. Contains ps p) (places_are kept) h) in
             let x = m.0 in
             let n = present_named r x (kept_has (at_pixel present b l c) face_points x m.1).1 in
-            (n.0, n.1, subst (Has n.0) m.2 n.2)
+            (n.0, n.1, subst (Contains n.0) m.2 n.2)
 
-        from : (q : Piece) × Has pieces q × Has q p → Has (places_of (pixel.vertices b l c)) p
+        from : (q : Piece) × Contains pieces q × Contains q p → Contains (places_of (pixel.vertices b l c)) p
         from n =
             let m = named_point r n.0 p n.1 n.2 in
             let x = m.0 in
-            let here = named_present r x n.0 n.1 (subst (Has n.0) (sym m.1) n.2) in
+            let here = named_present r x n.0 n.1 (subst (Contains n.0) (sym m.1) n.2) in
             let h = has_map (place_of c) kept x (has_kept (at_pixel present b l c) face_points x here (every_point x)) in
-            subst (λ ps. Has ps p) (sym (places_are kept)) (subst (Has (map (place_of c) kept)) m.1 h)
+            subst (λ ps. Contains ps p) (sym (places_are kept)) (subst (Contains (map (place_of c) kept)) m.1 h)
 
 -- ---- sides and their cuts
 -- what stands in a list of one element, or of none
-only : {A : Type 0} (t : Bool) (x i : A) → Has (cond t (x ∷ []) []) i → (t ≡ true) × (x ≡ i)
+only : {A : Type 0} (t : Bool) (x i : A) → Contains (cond t (x ∷ []) []) i → (t ≡ true) × (x ≡ i)
 only true x i h = (refl, ⊎_elim (λ e. e) (λ n. absurd (has_none i n)) (has_cases x [] i h))
 only false x i h = absurd (has_none i h)
 
-the_one : {A : Type 0} (t : Bool) (x : A) → t ≡ true → Has (cond t (x ∷ []) []) x
+the_one : {A : Type 0} (t : Bool) (x : A) → t ≡ true → Contains (cond t (x ∷ []) []) x
 the_one true x h = has_here x [] x refl
 the_one false x h = absurd (false≢true h)
 
@@ -266,7 +264,7 @@ side_of c p1 = record { axis = Y; point = next_x c }
 side_of c p2 = record { axis = X; point = c }
 side_of c p3 = record { axis = X; point = next_y c }
 
-has_side : (c : Point) (x : OnSide) → Has (pixel_sides c) (side_of c x)
+has_side : (c : Point) (x : OnSide) → Contains (pixel_sides c) (side_of c x)
 has_side c p0 = has_here (side_of c p0) (side_of c p1 ∷ side_of c p2 ∷ side_of c p3 ∷ []) (side_of c p0) refl
 has_side c p1 = has_there (side_of c p0) (side_of c p1 ∷ side_of c p2 ∷ side_of c p3 ∷ []) (side_of c p1) (has_here (side_of c p1) (side_of c p2 ∷ side_of c p3 ∷ []) (side_of c p1) refl)
 has_side c p2 =
@@ -277,7 +275,7 @@ has_side c p3 =
     (has_there (side_of c p1) (side_of c p2 ∷ side_of c p3 ∷ []) (side_of c p3)
     (has_there (side_of c p2) (side_of c p3 ∷ []) (side_of c p3) (has_here (side_of c p3) [] (side_of c p3) refl)))
 
-which_side : (c : Point) (s : Side) → Has (pixel_sides c) s → (x : OnSide) × (side_of c x ≡ s)
+which_side : (c : Point) (s : Side) → Contains (pixel_sides c) s → (x : OnSide) × (side_of c x ≡ s)
 which_side c s h =
     ⊎_elim (λ e. (p0, e))
     (λ h1. ⊎_elim (λ e. (p1, e))
@@ -376,7 +374,7 @@ across_inj Y c d e = λ i. record { x = suc_inj (ap (λ p. p.x) e) i; y = (e i).
     suc_inj h = omega arith
 across_inj Z c d e = e
 
-starts : (c : Point) (s : Side) → Has (pixel_sides c) s → (c ≡ s.point) ⊎ (across s.axis c ≡ s.point)
+starts : (c : Point) (s : Side) → Contains (pixel_sides c) s → (c ≡ s.point) ⊎ (across s.axis c ≡ s.point)
 starts c s h = let w = which_side c s h in go w.0 w.1
   where
     go : (x : OnSide) → side_of c x ≡ s → (c ≡ s.point) ⊎ (across s.axis c ≡ s.point)
@@ -394,7 +392,7 @@ two_of_three a q c d e (inr x) (inl y) (inl z) = inr (inl (y ∙ sym z))
 two_of_three a q c d e (inr x) (inl y) (inr z) = inr (inr (across_inj a c e (x ∙ sym z)))
 two_of_three a q c d e (inr x) (inr y) z = inl (across_inj a c d (x ∙ sym y))
 
-pub pixel_two_cells : (c d e : Point) (s : Side) → Has (pixel_sides c) s → Has (pixel_sides d) s → Has (pixel_sides e) s → (c ≡ d) ⊎ (d ≡ e) ⊎ (c ≡ e)
+pub pixel_two_cells : (c d e : Point) (s : Side) → Contains (pixel_sides c) s → Contains (pixel_sides d) s → Contains (pixel_sides e) s → (c ≡ d) ⊎ (d ≡ e) ⊎ (c ≡ e)
 pixel_two_cells c d e s h k g = two_of_three s.axis s.point c d e (starts c s h) (starts d s k) (starts e s g)
 
 pub pixel_sides_once : (c : Point) → Distinct (pixel_sides c)
@@ -429,14 +427,14 @@ by_place b l c P2 = refl
 by_place b l c P3 = refl
 by_place b l c C = refl
 
-stands_by : (b : Block) (l : Level) (c : Point) (v : Vertex) → Has (pixel.vertices b l c) v → v ≡ vertex_at b l v.place
+stands_by : (b : Block) (l : Level) (c : Point) (v : Vertex) → Contains (pixel.vertices b l c) v → v ≡ vertex_at b l v.place
 stands_by b l c v h =
     let m = map_has (at_pixel (vertex_of c) b l c) (kept b l c) v h in
     let x = m.0 in
     let p : place_of c x ≡ v.place = sym (place_is b l c x) ∙ ap (λ w. w.place) m.2 in
     sym m.2 ∙ by_place b l c x ∙ ap (vertex_at b l) p
 
-pub pixel_offsets : (b : Block) (l : Level) (c d : Point) (v w : Vertex) → Has (pixel.vertices b l c) v → Has (pixel.vertices b l d) w → v.place ≡ w.place → v ≡ w
+pub pixel_offsets : (b : Block) (l : Level) (c d : Point) (v w : Vertex) → Contains (pixel.vertices b l c) v → Contains (pixel.vertices b l d) w → v.place ≡ w.place → v ≡ w
 pixel_offsets b l c d v w h k e = stands_by b l c v h ∙ ap (vertex_at b l) e ∙ sym (stands_by b l d w k)
 
 pub pixel_laws : Laws pixel

@@ -1,8 +1,10 @@
 -- The places of a pixel's points, told apart, and the heights of a pixel that can be read.
-use Rattle.std.proofs.Common.{◌≡◌, ℕ, ◌+◌, true, false, ◌&&◌, eqb, sym, refl, ap, ◌∙◌, arith}
+use Rattle.std.proofs.Common.{◌≡◌, ℕ, ◌+◌, true, false, None, ◌&&◌, eqb, sym, refl, ap, ◌∙◌, arith}
 use Rattle.std.proofs.lemmas.Bool.{eq-eqb, ne_eqb, or_from}
+use Rattle.std.proofs.lemmas.List.Elements.{recursion_from_All}
 use Rattle.block.specs.Block.{Block}
 use Rattle.block.specs.declared.lattice.Point.{Point}
+use Rattle.cell.specs.Corner.{corners_declined}
 use Rattle.cell.specs.Face.{meets_level}
 use Rattle.cell.specs.Interpolant.{same}
 use Rattle.cell.specs.declared.face.FacePoint.{FacePoint}
@@ -10,7 +12,7 @@ use Rattle.cell.specs.declared.face.FacePoint.TheVariants.{P0, P1, P2, P3, C}
 use Rattle.cell.specs.declared.level.Level.{Level}
 use Rattle.kind.specs.Meaning.{same_place, Readable}
 use Rattle.kind.proofs.Places.{same_point_self, same_place_decides}
-use Rattle.kind.proofs.Reading.{all_off}
+use Rattle.kind.proofs.Reading.{IsOff, all_off}
 use Rattle.pixel_theory.specs.Kind.{pixel, place_of}
 use Rattle.pixel_theory.specs.Pixel.{at_pixel, pixel_corners, next_x, next_y}
 
@@ -56,8 +58,11 @@ module _ (c : Point) where
   pub apart : (x y : FacePoint) → place_of c x ≡ place_of c y → same x y ≡ true
   apart x y e = sym (same_points x y) ∙ (same_place_decides (place_of c x) (place_of c y)).1 e
 
--- a pixel that can be read meets the level at no corner
-pub reads_off : (b : Block) (l : Level) (c : Point) → Readable pixel b l c → at_pixel meets_level b l c ≡ false
-reads_off b l c r =
-    let off = all_off b l (pixel_corners c) r.reads in
+-- a pixel whose corners serve, and so one that can be read, meets the level at no corner
+pub corners_off : (b : Block) (l : Level) (c : Point) → corners_declined b l (pixel_corners c) ≡ None → at_pixel meets_level b l c ≡ false
+corners_off b l c reads =
+    let off = recursion_from_All (IsOff b l) (pixel_corners c) (all_off b l (pixel_corners c) reads) in
     or_from _ _ off.0 (or_from _ _ off.1.0 (or_from _ _ off.1.1.0 off.1.1.1.0))
+
+pub reads_off : (b : Block) (l : Level) (c : Point) → Readable pixel b l c → at_pixel meets_level b l c ≡ false
+reads_off b l c r = corners_off b l c r.reads

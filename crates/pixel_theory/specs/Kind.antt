@@ -1,5 +1,5 @@
 -- What the kind of pixels means.
-use Rattle.std.specs.Prelude.{◌+◌, Bool, cond, List, [], ◌∷◌, map, ℤ, Some, filter}
+use Rattle.std.specs.Prelude.{◌+◌, Bool, if◌then◌else◌, List, [], ◌∷◌, map, ℤ, Some, filter}
 use Rattle.block.specs.Block.{Block}
 use Rattle.block.specs.declared.lattice.Point.{Point}
 use Rattle.cell.specs.Corner.{corner_height}
@@ -46,7 +46,7 @@ edge_place s = record { form = Some Edge; axis = Some s.axis; point = s.point }
 
 -- an edge's cut is its crossing, if any
 abbrev pub edge_cuts : Block → Level → Side → List Joint
-edge_cuts b l s = cond (opposite (sign (corner_height b l s.point)) (sign (corner_height b l (upper s)))) ((edge_place s ∷ []) ∷ []) []
+edge_cuts b l s = if opposite (sign (corner_height b l s.point)) (sign (corner_height b l (upper s))) then (edge_place s ∷ []) ∷ [] else []
 
 -- a segment names its two ends
 abbrev pub segment_places : (FacePoint → Place) → FaceSegment → Piece

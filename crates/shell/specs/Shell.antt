@@ -1,5 +1,5 @@
 -- The triangles of a voxel as the code holds them, from the heights at its corners.
-use Rattle.std.specs.Prelude.{ℕ, ◌≤◌, cond, List, map, take, ℤ, Some, None, Option}
+use Rattle.std.specs.Prelude.{ℕ, ◌≤◌, if◌then◌else◌, List, map, take, ℤ, Some, None, Option}
 use Rattle.clipping.specs.Faces.{local_vertices, voxel_segments}
 use Rattle.clipping.specs.Clip.{Triangle, triangles, vertices_on}
 use Rattle.clipping.specs.Laws.{most_triangles, Filled}
@@ -16,7 +16,7 @@ shell_of g = (triangles (voxel_segments g), vertices_on (voxel_segments g))
 
 -- a voxel has its shell where the level meets no corner of it
 abbrev pub shell_rule : (ℕ → ℤ) → Option Local
-shell_rule g = cond (meets_level g) None (Some (shell_of g))
+shell_rule g = if meets_level g then None else Some (shell_of g)
 
 -- what the code holds
 abbrev pub named : LocalTriangle → Triangle

@@ -1,6 +1,6 @@
 -- Cells that lie in a box are at most as many as the box has points.
 use Rattle.std.proofs.Common.{◌≡◌, ℕ, zero, suc, ◌*◌, ◌<◌, ◌≤◌, true, ◌&&◌, ltb, List, [], ◌∷◌, map, length, refl, ap, ⊎_elim, le_trans, arith}
-use Rattle.std.specs.List.{ContainsAt as Has, flat_map}
+use Rattle.std.specs.List.{Contains, flat_map}
 use Rattle.std.proofs.lemmas.List.{length-map}
 use Rattle.std.proofs.lemmas.Bool.{and_parts, cases_eq, ltb-true}
 use Rattle.block.specs.Lattice.{inside, count}
@@ -16,7 +16,7 @@ abbrev below : ℕ → List ℕ
 below zero = []
 below (suc n) = n ∷ below n
 
-has_below : (n k : ℕ) → k < n → Has (below n) k
+has_below : (n k : ℕ) → k < n → Contains (below n) k
 has_below zero k less = let z : ⊥ = omega arith in absurd z
 has_below (suc n) k less = ⊎_elim (λ e. has_here n (below n) k e) (λ ne. has_there n (below n) k (has_below n k (omega arith))) (cases_eq n k)
 
@@ -38,7 +38,7 @@ module _ (box : Sizes) where
   abbrev points : List Point
   points = flat_map layer (below box.x)
 
-  has_points : (p : Point) → inside box p ≡ true → Has points p
+  has_points : (p : Point) → inside box p ≡ true → Contains points p
   has_points p t =
       let u = and_parts (ltb p.x box.x && ltb p.y box.y) (ltb p.z box.z) t in
       let v = and_parts (ltb p.x box.x) (ltb p.y box.y) u.0 in

@@ -1,6 +1,6 @@
 -- What takes and withdrawals do to the lists, and that they answer it.
 use Rattle.std.proofs.Common.{◌≡◌, suc, ◌-◌, Bool, true, not, List, [], ◌∷◌, ◌++◌, map, length, take as list_take, Some, Ok, filter, sym, refl, ap, ◌∙◌, subst, ⊎_elim, arith}
-use Rattle.std.specs.List.{ContainsAt as Has, slice_get}
+use Rattle.std.specs.List.{Contains, slice_get}
 use Rattle.std.proofs.lemmas.List.{length-append, length_push, map-append, map-id}
 use Rattle.std.proofs.lemmas.Option.{slice_get_read}
 use Rattle.std.proofs.lemmas.List.Sums.{length-filter, count_by-le-length}
@@ -24,7 +24,7 @@ use Rattle.surface.proofs.Runs.{always_sound, accepted_call, answered}
 use Rattle.surface.proofs.Sound.{entered_pieces, named_part}
 
 -- a map in two steps
-map_through : {X Y Z : Type 0} (f : X → Z) (g : X → Y) (h : Y → Z) (xs : List X) → ((x : X) → Has xs x → f x ≡ h (g x)) → map f xs ≡ map h (map g xs)
+map_through : {X Y Z : Type 0} (f : X → Z) (g : X → Y) (h : Y → Z) (xs : List X) → ((x : X) → Contains xs x → f x ≡ h (g x)) → map f xs ≡ map h (map g xs)
 map_through f g h [] same = refl
 map_through f g h (x ∷ xs) same =
     ap (λ y. y ∷ map f xs) (same x (has_here x xs x refl)) ∙ ap (λ ys. h (g x) ∷ ys) (map_through f g h xs (λ y k. same y (has_there x xs y k)))
@@ -48,14 +48,14 @@ take_more o s b c = record {
 }
 
 -- what a withdrawal leaves
-split : (hs : List Held) (c : Point) → Distinct (positions hs) → Has (positions hs) c → Split hs c
+split : (hs : List Held) (c : Point) → Distinct (positions hs) → Contains (positions hs) c → Split hs c
 split [] c d h = absurd (has_none c h)
 split (g ∷ hs) c d h =
     ⊎_elim
     (λ t.
     let here : g.position ≡ c = (same_point_decides g.position c).0 t in
-    let apart : (k : Held) → Has hs k → not (same_point k.position c) ≡ true =
-    λ k m. not_from_false _ (refuted (same_point_decides k.position c) (λ e. d.0 (subst (Has (positions hs)) (e ∙ sym here) (has_map (λ x. x.position) hs k m)))) in
+    let apart : (k : Held) → Contains hs k → not (same_point k.position c) ≡ true =
+    λ k m. not_from_false _ (refuted (same_point_decides k.position c) (λ e. d.0 (subst (Contains (positions hs)) (e ∙ sym here) (has_map (λ x. x.position) hs k m)))) in
     record {
       before = [];
       cell = g;
@@ -65,7 +65,7 @@ split (g ∷ hs) c d h =
       rest = cond-false _ (g ∷ without hs c) (without hs c) (not_from_true _ t) ∙ kept_all (λ k. not (same_point k.position c)) hs apart;
     })
     (λ f.
-    let later : Has (positions hs) c = ⊎_elim (λ e. absurd (both_ways _ f ((same_point_decides g.position c).1 e))) (λ r. r) (has_cases g.position (positions hs) c h) in
+    let later : Contains (positions hs) c = ⊎_elim (λ e. absurd (both_ways _ f ((same_point_decides g.position c).1 e))) (λ r. r) (has_cases g.position (positions hs) c h) in
     let t = split hs c d.1 later in
     record {
       before = g ∷ t.before;
@@ -77,7 +77,7 @@ split (g ∷ hs) c d h =
     })
     (cases_Bool (same_point g.position c))
 
-module _ (o : Opening) (s : State) (ok : Kept o s) (c : Point) (held : Has (positions s.held) c) where
+module _ (o : Opening) (s : State) (ok : Kept o s) (c : Point) (held : Contains (positions s.held) c) where
   abbrev left : List Held
   left = without s.held c
 
@@ -89,7 +89,7 @@ module _ (o : Opening) (s : State) (ok : Kept o s) (c : Point) (held : Has (posi
   follows p n =
       let v = map_has (λ u. u.place) s.vertices p ((ok.named p).1 (named_part (λ h. not (same_point h.position c)) s.held p n)) in
       let k = v.1.0 in
-      let at : slice_get s.vertices k ≡ Some v.0 = slice_get_read s.vertices (length s.vertices) k v.0 refl v.1.1 (sym (v.1.2 v.0)) in
+      let at : slice_get s.vertices k ≡ Some v.0 = slice_get_read s.vertices (length s.vertices) k v.0 refl v.1.1 (sym v.1.2) in
       let less : k ≡ suc k - 1 = omega arith in
       let is : wanted v.0 ≡ true = (named_by_decides (pieces_of left) v.0.place).1 (subst (Named (pieces_of left)) (sym v.2) n) in
       subst (λ q. number (still_named left s.vertices) q ≡ renumbered wanted s.vertices (number s.vertices q)) v.2

@@ -1,6 +1,6 @@
 -- Rows of checks, and what a take that passes all of them is known by.
 use Rattle.std.proofs.Common.{◌≡◌, ℕ, ◌+◌, ◌<◌, ◌≤◌, Bool, true, false, ◌⊎◌, List, [], ◌∷◌, ◌++◌, length, is_some, Some, None, Option, sym, refl, ap, inl, inr, ⊎_elim}
-use Rattle.std.specs.List.{ContainsAt as Has, AllByRecursion}
+use Rattle.std.specs.List.{Contains, AllByRecursion}
 use Rattle.std.proofs.lemmas.Bool.{false≢true, both_ways, not-false, leb-false, ltb-false}
 use Rattle.block.specs.Block.{Block}
 use Rattle.block.specs.Refusals.{Told, plain}
@@ -52,7 +52,7 @@ test_passed test n e = rw e
 pub record Takeable (o : Opening) (s : State) (b : Block) (c : Point) : Type 0 where
   pub sizes : b.sizes ≡ o.sizes
   pub readable : Readable o.meaning b o.level c
-  pub new : Has (positions s.held) c → ⊥
+  pub new : Contains (positions s.held) c → ⊥
 
 -- the slots suffice for it
 pub record Fits (o : Opening) (s : State) (b : Block) (c : Point) : Type 0 where

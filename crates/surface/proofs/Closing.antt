@@ -1,6 +1,6 @@
 -- Where one block was read, a joint lies on an odd number of pieces exactly when it is a cut of a border side.
 use Rattle.std.proofs.Common.{◌≡◌, ℕ, cond, ◌⊎◌, ◌↔◌, sum_by, count_by, sym, ap, ◌∙◌, subst, arith}
-use Rattle.std.specs.List.{ContainsAt as Has}
+use Rattle.std.specs.List.{Contains}
 use Rattle.block.specs.Block.{Block}
 use Rattle.cell.specs.declared.vertex.Side.{Side}
 use Rattle.kind.specs.Meaning.{Laws, Joint, IsJoint, Odd, CutOf, CutOfCell, on}
@@ -15,30 +15,30 @@ abbrev share : Joint → Held → ℕ
 share j h = count_by (on j) h.pieces
 
 module _ (o : Opening) (laws : Laws o.meaning) (b : Block) (s : State) (ok : Sound (λ a. a ≡ b) o s) (j : Joint) (joint : IsJoint o.meaning j) where
-  good : (h : Held) → Has s.held h → Good o b h
+  good : (h : Held) → Contains s.held h → Good o b h
   good = good_on b o s ok
 
   -- the joint is a cut of the cell
   abbrev Counts : Held → Type 0
   Counts h = CutOfCell o.meaning b o.level h.position j
 
-  odd_share : (h : Held) → Has s.held h → Odd (share j h) ↔ Counts h
+  odd_share : (h : Held) → Contains s.held h → Odd (share j h) ↔ Counts h
   odd_share h k =
       subst (λ qs. Odd (count_by (on j) qs) ↔ Counts h) (sym (good h k).its_pieces) (laws.parity b o.level h.position j (good h k).readable joint)
 
   -- two cells that the joint is a cut of have it on one side
-  one_side : (g h : Held) (t u : Side) → Has s.held g → Has s.held h → Has (o.meaning.sides g.position) t → Has (o.meaning.sides h.position) u → CutOf o.meaning b o.level t j → CutOf o.meaning b o.level u j → t ≡ u
+  one_side : (g h : Held) (t u : Side) → Contains s.held g → Contains s.held h → Contains (o.meaning.sides g.position) t → Contains (o.meaning.sides h.position) u → CutOf o.meaning b o.level t j → CutOf o.meaning b o.level u j → t ≡ u
   one_side g h t u p q = laws.one_side b o.level g.position h.position t u j (good g p).readable (good h q).readable
 
   -- no three cells have the joint
-  no_three : (g h k : Held) → Has s.held g → Has s.held h → Has s.held k → Counts g → Counts h → Counts k →
+  no_three : (g h k : Held) → Contains s.held g → Contains s.held h → Contains s.held k → Counts g → Counts h → Counts k →
       (g.position ≡ h.position) ⊎ (h.position ≡ k.position) ⊎ (g.position ≡ k.position)
   no_three g h k p q r c d e =
       laws.two_cells b.sizes g.position h.position k.position c.0
       (good g p).readable.is_cell (good h q).readable.is_cell (good k r).readable.is_cell
       c.1
-      (subst (Has (o.meaning.sides h.position)) (one_side h g d.0 c.0 q p d.1 c.1 d.2 c.2) d.1)
-      (subst (Has (o.meaning.sides k.position)) (one_side k g e.0 c.0 r p e.1 c.1 e.2 c.2) e.1)
+      (subst (Contains (o.meaning.sides h.position)) (one_side h g d.0 c.0 q p d.1 c.1 d.2 c.2) d.1)
+      (subst (Contains (o.meaning.sides k.position)) (one_side k g e.0 c.0 r p e.1 c.1 e.2 c.2) e.1)
 
   abbrev Sum : Type 0
   Sum = Tally (λ h. h.position) (share j) Counts s.held
@@ -58,8 +58,8 @@ module _ (o : Opening) (laws : Laws o.meaning) (b : Block) (s : State) (ok : Sou
   from_border (none all e) t = absurd (all t.1.cell t.1.is_held (t.0, t.1.is_side, t.2))
   from_border (one h k c alone e) t = e
   from_border (two h k p q c d ne e) t =
-      let at : (g : Held) → Has s.held g → Counts g → g.position ≡ t.1.cell.position =
-      λ g r f. t.1.alone g r (subst (Has (o.meaning.sides g.position)) (one_side g t.1.cell f.0 t.0 r t.1.is_held f.1 t.1.is_side f.2 t.2) f.1) in
+      let at : (g : Held) → Contains s.held g → Counts g → g.position ≡ t.1.cell.position =
+      λ g r f. t.1.alone g r (subst (Contains (o.meaning.sides g.position)) (one_side g t.1.cell f.0 t.0 r t.1.is_held f.1 t.1.is_side f.2 t.2) f.1) in
       absurd (ne (at h p c ∙ sym (at k q d)))
 
   closed_at : Odd (count_by (on j) (pieces_of s.held)) ↔ OnBorder o b s j

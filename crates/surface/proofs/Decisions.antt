@@ -1,7 +1,7 @@
 -- What the tests of positions, places and sizes decide.
 use Rattle.std.proofs.Common.{◌≡◌, Bool, false, ◌&&◌, eqb, List, [], get_or, Decides, sym, refl, subst, ⊎_elim}
-use Rattle.std.specs.List.{ContainsAt as Has}
-use Rattle.std.proofs.ByRecursion.{has_get_or}
+use Rattle.std.specs.List.{Contains}
+use Rattle.std.proofs.lemmas.List.Elements.{Decides-contains, at_from_Contains, Contains-get_or}
 use Rattle.std.proofs.lemmas.Bool.{cases_Bool}
 use Rattle.std.proofs.lemmas.Bool.Decides.{Decides-and, Decides-by_or, Decides-eqb, Decides-like}
 use Rattle.block.specs.declared.lattice.Point.{Point}
@@ -19,8 +19,9 @@ refuted {P} {r} decides no_p = ⊎_elim (λ t. absurd (no_p (decides.0 t))) (λ 
 pub same_point_decides : (p q : Point) → Decides (same_point p q) (p ≡ q)
 same_point_decides p q = (same_point_true p q, λ e. rw (← e) (same_point_self p))
 
-pub has_position_decides : (ps : List Point) (c : Point) → Decides (has_position ps c) (Has ps c)
-has_position_decides ps c = Decides-by_or (λ p. same_point p c) (λ p. p ≡ c) (λ qs. has_position qs c) (λ p. same_point_decides p c) refl (λ _ _. refl) ps
+pub has_position_decides : (ps : List Point) (c : Point) → Decides (has_position ps c) (Contains ps c)
+has_position_decides ps c =
+    Decides-contains ps c (has_position ps c) (Decides-by_or (λ p. same_point p c) (λ p. p ≡ c) (λ qs. has_position qs c) (λ p. same_point_decides p c) refl (λ _ _. refl) ps)
 
 pub same_sizes_decides : (m n : Sizes) → Decides (same_sizes m n) (m ≡ n)
 same_sizes_decides m n =
@@ -34,6 +35,6 @@ same_sizes_decides m n =
 pub named_by_decides : (qs : List Piece) (p : Place) → Decides (named_by qs p) (Named qs p)
 named_by_decides qs p =
     Decides-like (named_by qs p)
-    (λ t. (get_or qs t.0 [], has_get_or qs t.0 [] t.1, t.2 []))
-    (λ t. (t.1.0, t.1.1, λ d. subst (λ q. Has q p) (sym (t.1.2 d)) t.2))
-    (Decides-by_or (λ q. names q p) (λ q. Has q p) (λ rs. named_by rs p) (λ q. names_decides q p) refl (λ _ _. refl) qs)
+    (λ t. (get_or qs t.0 [], Contains-get_or qs t.0 [] t.1, t.2 []))
+    (λ t. let at = at_from_Contains qs t.0 t.1 in (at.0, at.1, λ d. subst (λ q. Contains q p) (sym (at.2 d)) t.2))
+    (Decides-by_or (λ q. names q p) (λ q. Contains q p) (λ rs. named_by rs p) (λ q. names_decides q p) refl (λ _ _. refl) qs)

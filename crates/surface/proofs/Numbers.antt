@@ -1,8 +1,9 @@
 -- The numbers of the piece list, by the vertex list.
 use Rattle.std.proofs.Common.{◌≡◌, ℕ, zero, suc, ◌+◌, ◌≤◌, Bool, true, cond, ◌&&◌, eqb, ◌⊎◌, List, [], ◌∷◌, ◌++◌, map, length, take, Some, Decides, count_by, filter, sym, refl, ap, ◌∙◌, subst, inl, inr, ⊎_elim, arith}
-use Rattle.std.specs.List.{ContainsAt as Has, slice_get}
+use Rattle.std.specs.List.{Contains, slice_get}
 use Rattle.std.proofs.lemmas.List.Sums.{sum_by-cons}
 use Rattle.std.proofs.lemmas.Bool.{cases_Bool, cond-true, cond-false}
+use Rattle.std.proofs.lemmas.List.Elements.{Decides-contains}
 use Rattle.std.proofs.lemmas.Bool.Decides.{Decides-by_or, Decides-eqb, Decides-like, not_from_Decides, same_from_decides}
 use Rattle.cell.specs.declared.vertex.Place.{Place}
 use Rattle.cell.specs.declared.vertex.Vertex.{Vertex}
@@ -29,10 +30,10 @@ number_low [] p = omega arith
 number_low (v ∷ vs) p = ⊎_elim (λ t. let e = t.1 in omega arith) (λ t. let e = t.1 in omega arith) (number_cases v vs p)
 
 -- a place that is not the first vertex's is listed behind it
-pub behind : (v : Vertex) (vs : List Vertex) (p : Place) → (v.place ≡ p → ⊥) → Has (places_of (v ∷ vs)) p → Has (places_of vs) p
+pub behind : (v : Vertex) (vs : List Vertex) (p : Place) → (v.place ≡ p → ⊥) → Contains (places_of (v ∷ vs)) p → Contains (places_of vs) p
 behind v vs p ne h = ⊎_elim (λ e. absurd (ne e)) (λ later. later) (has_cases v.place (places_of vs) p h)
 
-pub number_high : (vs : List Vertex) (p : Place) → Has (places_of vs) p → number vs p ≤ length vs
+pub number_high : (vs : List Vertex) (p : Place) → Contains (places_of vs) p → number vs p ≤ length vs
 number_high [] p h = absurd (has_none p h)
 number_high (v ∷ vs) p h =
     ⊎_elim (λ t. let e = t.1 in omega arith)
@@ -40,7 +41,7 @@ number_high (v ∷ vs) p h =
     (number_cases v vs p)
 
 -- no other place has the number of a listed one
-number_same : (vs : List Vertex) (p q : Place) → Has (places_of vs) p → number vs p ≡ number vs q → p ≡ q
+number_same : (vs : List Vertex) (p q : Place) → Contains (places_of vs) p → number vs p ≡ number vs q → p ≡ q
 number_same [] p q h e = absurd (has_none p h)
 number_same (v ∷ vs) p q h e =
     ⊎_elim
@@ -51,7 +52,7 @@ number_same (v ∷ vs) p q h e =
     (number_cases v vs q))
     (number_cases v vs p)
 
-pub nth_has : {X : Type 0} (xs : List X) (k : ℕ) (x : X) → slice_get xs k ≡ Some x → Has xs x
+pub nth_has : {X : Type 0} (xs : List X) (k : ℕ) (x : X) → slice_get xs k ≡ Some x → Contains xs x
 nth_has [] k x e = absurd (some_none x (sym e))
 nth_has (y ∷ xs) zero x e = has_here y xs x (cc)
 nth_has (y ∷ xs) (suc k) x e = has_there y xs x (nth_has xs k x e)
@@ -62,12 +63,12 @@ number_counted (w ∷ vs) d zero v e =
     let same : w ≡ v = cc in
     ⊎_elim (λ t. t.1) (λ t. absurd (t.0 (ap (λ u. u.place) same))) (number_cases w vs v.place)
 number_counted (w ∷ vs) d (suc k) v e =
-    ⊎_elim (λ t. absurd (d.0 (subst (Has (places_of vs)) (sym t.0) (has_map (λ u. u.place) vs v (nth_has vs k v e)))))
+    ⊎_elim (λ t. absurd (d.0 (subst (Contains (places_of vs)) (sym t.0) (has_map (λ u. u.place) vs v (nth_has vs k v e)))))
     (λ t. t.1 ∙ ap suc (number_counted vs d.1 k v e))
     (number_cases w vs v.place)
 
 -- a place that is listed keeps its number where more vertices are appended
-pub number_append : (vs ws : List Vertex) (p : Place) → Has (places_of vs) p → number (vs ++ ws) p ≡ number vs p
+pub number_append : (vs ws : List Vertex) (p : Place) → Contains (places_of vs) p → number (vs ++ ws) p ≡ number vs p
 number_append [] ws p h = absurd (has_none p h)
 number_append (v ∷ vs) ws p h =
     ⊎_elim (λ t. cond-true _ 1 (suc (number (vs ++ ws) p)) ((same_place_decides v.place p).1 t.0) ∙ sym t.1)
@@ -75,7 +76,7 @@ number_append (v ∷ vs) ws p h =
     (number_cases v vs p)
 
 -- one that is not listed has its number behind the list
-pub number_append_new : (vs ws : List Vertex) (p : Place) → (Has (places_of vs) p → ⊥) → number (vs ++ ws) p ≡ length vs + number ws p
+pub number_append_new : (vs ws : List Vertex) (p : Place) → (Contains (places_of vs) p → ⊥) → number (vs ++ ws) p ≡ length vs + number ws p
 number_append_new [] ws p ne = omega arith
 number_append_new (v ∷ vs) ws p ne =
     ⊎_elim (λ t. absurd (ne (has_here v.place (places_of vs) p t.0)))
@@ -92,7 +93,7 @@ number_kept kept (w ∷ vs) d zero v e t =
     ∙ cond-true (same_place w.place v.place) 1 (suc (number (filter kept vs) v.place)) ((same_place_decides w.place v.place).1 (ap (λ u. u.place) same))
 number_kept kept (w ∷ vs) d (suc k) v e t =
     let later = number_kept kept vs d.1 k v e t in
-    let other : w.place ≡ v.place → ⊥ = λ i. d.0 (subst (Has (places_of vs)) (sym i) (has_map (λ u. u.place) vs v (nth_has vs k v e))) in
+    let other : w.place ≡ v.place → ⊥ = λ i. d.0 (subst (Contains (places_of vs)) (sym i) (has_map (λ u. u.place) vs v (nth_has vs k v e))) in
     ⊎_elim
     (λ yes_w.
     ap (λ us. number us v.place) (cond-true (kept w) (w ∷ filter kept vs) (filter kept vs) yes_w)
@@ -105,16 +106,17 @@ number_kept kept (w ∷ vs) d (suc k) v e t =
     ∙ ap (λ us. suc (length us)) (sym (cond-false (kept w) (w ∷ filter kept (take k vs)) (filter kept (take k vs)) no_w)))
     (cases_Bool (kept w))
 
-has_number_decides : (ns : List ℕ) (n : ℕ) → Decides (has_number ns n) (Has ns n)
-has_number_decides ns n = Decides-by_or (λ k. eqb k n) (λ k. k ≡ n) (λ ks. has_number ks n) (λ k. Decides-eqb k n) refl (λ _ _. refl) ns
+has_number_decides : (ns : List ℕ) (n : ℕ) → Decides (has_number ns n) (Contains ns n)
+has_number_decides ns n =
+    Decides-contains ns n (has_number ns n) (Decides-by_or (λ k. eqb k n) (λ k. k ≡ n) (λ ks. has_number ks n) (λ k. Decides-eqb k n) refl (λ _ _. refl) ns)
 
-module _ (vs : List Vertex) (q : Piece) (listed : (p : Place) → Has q p → Has (places_of vs) p) where
+module _ (vs : List Vertex) (q : Piece) (listed : (p : Place) → Contains q p → Contains (places_of vs) p) where
   -- a piece has a place's number exactly when it names the place
   pub number_named : (p : Place) → has_number (map (number vs) q) (number vs p) ≡ names q p
   number_named p =
       same_from_decides (has_number (map (number vs) q) (number vs p)) (names q p)
       (Decides-like (has_number (map (number vs) q) (number vs p))
-      (λ h. let t = map_has (number vs) q (number vs p) h in subst (Has q) (number_same vs t.0 p (listed t.0 t.1) t.2) t.1)
+      (λ h. let t = map_has (number vs) q (number vs p) h in subst (Contains q) (number_same vs t.0 p (listed t.0 t.1) t.2) t.1)
       (λ h. has_map (number vs) q p h)
       (has_number_decides (map (number vs) q) (number vs p)))
       (names_decides q p)
@@ -124,7 +126,7 @@ module _ (vs : List Vertex) (q : Piece) (listed : (p : Place) → Has q p → Ha
   number_on (p ∷ j) = ap (λ t. t && on_numbers (map (number vs) j) (map (number vs) q)) (number_named p) ∙ ap (λ t. names q p && t) (number_on j)
 
 -- as many elements pass as their images do
-count_map : {X Y : Type 0} (f : X → Y) (p : Y → Bool) (r : X → Bool) (xs : List X) → ((x : X) → Has xs x → p (f x) ≡ r x) → count_by p (map f xs) ≡ count_by r xs
+count_map : {X Y : Type 0} (f : X → Y) (p : Y → Bool) (r : X → Bool) (xs : List X) → ((x : X) → Contains xs x → p (f x) ≡ r x) → count_by p (map f xs) ≡ count_by r xs
 count_map f p r [] same = refl
 count_map f p r (x ∷ xs) same =
     sum_by-cons (λ y. cond (p y) 1 0) (f x) (map f xs)
@@ -134,13 +136,13 @@ count_map f p r (x ∷ xs) same =
 
 module _ (o : Opening) (s : State) (ok : Kept o s) where
   -- every place that a listed piece names is listed
-  pub named_listed : (q : Piece) → Has (pieces_of s.held) q → (p : Place) → Has q p → Has (places_of s.vertices) p
+  pub named_listed : (q : Piece) → Contains (pieces_of s.held) q → (p : Place) → Contains q p → Contains (places_of s.vertices) p
   named_listed q h p k = (ok.named p).1 (q, h, k)
 
-  number_listed : (ns : List ℕ) (n : ℕ) → Has (piece_list s) ns → Has ns n → (1 ≤ n) × (n ≤ length s.vertices)
+  number_listed : (ns : List ℕ) (n : ℕ) → Contains (piece_list s) ns → Contains ns n → (1 ≤ n) × (n ≤ length s.vertices)
   number_listed ns n h k =
       let q = map_has (map (number s.vertices)) (pieces_of s.held) ns h in
-      let p = map_has (number s.vertices) q.0 n (subst (λ ks. Has ks n) (sym q.2) k) in
+      let p = map_has (number s.vertices) q.0 n (subst (λ ks. Contains ks n) (sym q.2) k) in
       let e = p.2 in
       let low = number_low s.vertices p.0 in
       let high = number_high s.vertices p.0 (named_listed q.0 q.1 p.0 p.1) in

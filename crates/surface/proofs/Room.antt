@@ -1,6 +1,6 @@
 -- With slots for every cell no take is declined for want of slots.
 use Rattle.std.proofs.Common.{◌≡◌, ℕ, suc, ◌*◌, ◌<◌, ◌≤◌, Bool, true, false, cond, List, [], ◌∷◌, length, ℤ, Some, None, Ok, Err, Option, Result, sym, ◌∙◌, subst, ⊎_elim, mul-le-mul_right, suc-mul, arith}
-use Rattle.std.specs.List.{ContainsAt as Has}
+use Rattle.std.specs.List.{Contains}
 use Rattle.std.proofs.lemmas.List.{length-map}
 use Rattle.std.proofs.lemmas.Bool.{lt-leb, le-ltb}
 use Rattle.block.specs.Block.{Block}
@@ -51,7 +51,7 @@ corners_early b l (p ∷ ps) t e = go (corner_declined b l p) (one_early l p (b.
 
 module _ (o : Opening) (laws : Laws o.meaning) (cells vertices pieces : ℕ) (few : CellsAtMost o.meaning o.sizes cells) (small : EachAtMost o.meaning vertices pieces) (room : RoomFor o.rooms cells vertices pieces) (s : State) (ok : Sound Any o s) where
   -- a held cell's pieces name no more places than the cell has vertices
-  own_places : (h : Held) → Has s.held h → Covered (Named h.pieces) vertices
+  own_places : (h : Held) → Contains s.held h → Covered (Named h.pieces) vertices
   own_places h k =
       let t = ok.read h k in
       let own = vertices_at o t.0 h.position in
@@ -77,7 +77,7 @@ module _ (o : Opening) (laws : Laws o.meaning) (cells vertices pieces : ℕ) (fe
     -- the held cells and the new one are different cells
     one_more : suc (length s.held) ≤ cells
     one_more =
-        let all : (p : Point) → Has (c ∷ positions s.held) p → o.meaning.cell o.sizes p ≡ true =
+        let all : (p : Point) → Contains (c ∷ positions s.held) p → o.meaning.cell o.sizes p ≡ true =
         λ p h. ⊎_elim (λ e. subst (λ d. o.meaning.cell o.sizes d ≡ true) e (subst (λ n. o.meaning.cell n c ≡ true) a.sizes a.readable.is_cell)) (ok.kept.cells p) (has_cases c (positions s.held) p h) in
         let most = few (c ∷ positions s.held) (a.new, ok.kept.apart) all in
         omega (arith, length-map s.held (λ h. h.position))

@@ -1,7 +1,7 @@
 -- A withdrawal by numbers leaves the lists that it leaves by places.
 use Rattle.std.proofs.Common.{◌≡◌, ℕ, zero, suc, ◌+◌, ◌-◌, ◌<◌, ◌≤◌, Bool, true, false, cond, not, ◌&&◌, ◌||◌, eqb, ltb, List, [], ◌∷◌, ◌++◌, map, length, take, Some, sum_by, count_by, filter, sym, refl, ap, ◌∙◌, subst, ap₂, arith}
-use Rattle.std.specs.List.{ContainsAt as Has, slice_get}
-use Rattle.std.proofs.ByRecursion.{has_append_left, has_append_right}
+use Rattle.std.specs.List.{Contains, slice_get}
+use Rattle.std.proofs.lemmas.List.Elements.{Contains-append_left, Contains-append_right}
 use Rattle.std.proofs.lemmas.List.{map-append}
 use Rattle.std.proofs.lemmas.List.Sums.{sum_by-cons}
 use Rattle.std.proofs.lemmas.Bool.Decides.{nat_tests}
@@ -224,7 +224,7 @@ below_less gone stay k pos =
     omega (arith, ap (below (unnamed gone stay)) e)
 
 -- pieces by number have a place's number exactly if they name the place
-any_named : (vs : List Vertex) (p : Place) (qs : List Piece) → ((q : Piece) → Has qs q → (r : Place) → Has q r → Has (places_of vs) r) → any_names (map (map (number vs)) qs) (number vs p) ≡ named_by qs p
+any_named : (vs : List Vertex) (p : Place) (qs : List Piece) → ((q : Piece) → Contains qs q → (r : Place) → Contains q r → Contains (places_of vs) r) → any_names (map (map (number vs)) qs) (number vs p) ≡ named_by qs p
 any_named vs p [] listed = refl
 any_named vs p (q ∷ qs) listed =
     ap₂ (λ a b. a || b) (number_named vs q (listed q (has_here q qs q refl)) p) (any_named vs p qs (λ r h. listed r (has_there q qs r h)))
@@ -232,7 +232,7 @@ any_named vs p (q ∷ qs) listed =
 named_append : (p : Place) (qs rs : List Piece) → named_by (qs ++ rs) p ≡ (named_by qs p || named_by rs p)
 named_append p = any_append (λ q. names q p) (λ qs. named_by qs p) refl (λ _ _. refl)
 
-map_same : {X Y : Type 0} (f g : X → Y) (xs : List X) → ((x : X) → Has xs x → f x ≡ g x) → map f xs ≡ map g xs
+map_same : {X Y : Type 0} (f g : X → Y) (xs : List X) → ((x : X) → Contains xs x → f x ≡ g x) → map f xs ≡ map g xs
 map_same f g [] same = refl
 map_same f g (x ∷ xs) same = ap₂ (λ y ys. y ∷ ys) (same x (has_here x xs x refl)) (map_same f g xs (λ y h. same y (has_there x xs y h)))
 
@@ -271,16 +271,16 @@ module _ (o : Opening) (s : State) (ok : Kept o s) (c : Point) (t : Split s.held
   stay_numbers : numbers stay ≡ numbers before ++ numbers behind
   stay_numbers = ap numbers stay_parts ∙ map-append (map (number vs)) before behind
 
-  gone_listed : (q : Piece) → Has gone q → Has (pieces_of s.held) q
-  gone_listed q h = subst (λ qs. Has qs q) (sym all_parts) (has_append_right before (gone ++ behind) q (has_append_left gone behind q h))
+  gone_listed : (q : Piece) → Contains gone q → Contains (pieces_of s.held) q
+  gone_listed q h = subst (λ qs. Contains qs q) (sym all_parts) (Contains-append_right before (gone ++ behind) q (Contains-append_left gone behind q h))
 
-  stay_listed : (q : Piece) → Has stay q → Has (pieces_of s.held) q
+  stay_listed : (q : Piece) → Contains stay q → Contains (pieces_of s.held) q
   stay_listed q h =
       let j = joined_has (λ g. g.pieces) (without s.held c) q h in
       has_joined (λ g. g.pieces) s.held j.0 q (kept_has (λ g. not (same_point g.position c)) s.held j.0 j.1).0 j.2
 
   -- a listed place is named by the pieces that go or by those that stay
-  either_names : (p : Place) → Has (places_of vs) p → (named_by gone p || named_by stay p) ≡ true
+  either_names : (p : Place) → Contains (places_of vs) p → (named_by gone p || named_by stay p) ≡ true
   either_names p h =
       let in_some = (named_by_decides (pieces_of s.held) p).1 ((ok.named p).0 h) in
       let in_all = ap (λ qs. named_by qs p) all_parts ∙ named_append p before (gone ++ behind) in
@@ -289,7 +289,7 @@ module _ (o : Opening) (s : State) (ok : Kept o s) (c : Point) (t : Split s.held
       grind arith
 
   -- so its number is lost exactly if those that stay do not name it
-  lost_unnamed : (p : Place) → Has (places_of vs) p → any_names lost (number vs p) ≡ not (named_by stay p)
+  lost_unnamed : (p : Place) → Contains (places_of vs) p → any_names lost (number vs p) ≡ not (named_by stay p)
   lost_unnamed p h =
       let in_gone = any_named vs p gone (λ q m. named_listed o s ok q (gone_listed q m)) in
       let in_stay = ap (λ qs. any_names qs (number vs p)) (sym stay_numbers) ∙ any_named vs p stay (λ q m. named_listed o s ok q (stay_listed q m)) in
@@ -303,10 +303,10 @@ module _ (o : Opening) (s : State) (ok : Kept o s) (c : Point) (t : Split s.held
       ap (any_names lost) (e ∙ sym (number_counted vs ok.once j v at)) ∙ lost_unnamed v.place (has_map (λ u. u.place) vs v (nth_has vs j v at))
 
   -- the numbers of the pieces that stay are those of listed vertices, so they follow
-  follows : (ns : List ℕ) (n : ℕ) → Has (numbers stay) ns → Has ns n → lowered lost n ≡ renumbered wanted vs n
+  follows : (ns : List ℕ) (n : ℕ) → Contains (numbers stay) ns → Contains ns n → lowered lost n ≡ renumbered wanted vs n
   follows ns n h k =
       let q = map_has (map (number vs)) stay ns h in
-      let listed = subst (Has (piece_list s)) q.2 (has_map (map (number vs)) (pieces_of s.held) q.0 (stay_listed q.0 q.1)) in
+      let listed = subst (Contains (piece_list s)) q.2 (has_map (map (number vs)) (pieces_of s.held) q.0 (stay_listed q.0 q.1)) in
       let within = (numbered o s ok).listed ns n listed k in
       lowered_kept lost (λ i p. unnamed_once i p (numbers gone) (numbers before ++ numbers behind)) wanted vs all_marked n within.0 within.1
 
@@ -317,7 +317,7 @@ module _ (o : Opening) (s : State) (ok : Kept o s) (c : Point) (t : Split s.held
       ∙ map_same (map (lowered lost)) (map (renumbered wanted vs)) (numbers stay) (λ ns h. map_same (lowered lost) (renumbered wanted vs) ns (λ n k. follows ns n h k))
 
 -- what a withdrawal leaves of the lists
-pub strikes : (o : Opening) (s : State) → Kept o s → (c : Point) → Has (positions s.held) c → (t : Split s.held c) → Strikes s c t
+pub strikes : (o : Opening) (s : State) → Kept o s → (c : Point) → Contains (positions s.held) c → (t : Split s.held c) → Strikes s c t
 strikes o s ok c held t = record {
   vertices = unstruck_kept (lost_of s c t) (wanted o s ok c t) 1 s.vertices (all_marked o s ok c t);
   pieces = stay_follow o s ok c t ∙ sym (all_follow o s ok c held);

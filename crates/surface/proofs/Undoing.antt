@@ -1,7 +1,7 @@
 -- A cell that is taken and at once withdrawn leaves the lists as they were.
 use Rattle.std.proofs.Common.{◌≡◌, not, List, [], ◌∷◌, ◌++◌, sym, ap, ◌∙◌, subst, ⊎_elim}
-use Rattle.std.specs.List.{ContainsAt as Has}
-use Rattle.std.proofs.ByRecursion.{has_push}
+use Rattle.std.specs.List.{Contains}
+use Rattle.std.proofs.lemmas.List.Elements.{Contains-push}
 use Rattle.std.proofs.lemmas.Bool.{not_from_true, not_from_false}
 use Rattle.block.specs.Block.{Block}
 use Rattle.block.specs.declared.lattice.Point.{Point}
@@ -28,7 +28,7 @@ module _ (o : Opening) (s : State) (ok : Kept o s) (b : Block) (c : Point) (a : 
   same_held : without (s.held ++ entry ∷ []) c ≡ s.held
   same_held =
       kept_front (λ h. not (same_point h.position c)) s.held (entry ∷ [])
-      (λ h k. not_from_false _ (refuted (same_point_decides h.position c) (λ e. a.new (subst (Has (positions s.held)) e (has_map (λ g. g.position) s.held h k)))))
+      (λ h k. not_from_false _ (refuted (same_point_decides h.position c) (λ e. a.new (subst (Contains (positions s.held)) e (has_map (λ g. g.position) s.held h k)))))
       (λ h k. not_from_true _ ((same_point_decides h.position c).1 (⊎_elim (λ e. ap (λ g. g.position) (sym e)) (λ z. absurd (has_none h z)) (has_cases entry [] h k))))
 
   -- its vertices go: no piece of another names them
@@ -47,7 +47,7 @@ undone o laws cs b c e =
     let s = after o cs in
     let t = entered o s b c in
     let took = (accepted_call o s (take_cell b c) e).1 in
-    let held : Has (positions t.held) c = has_map (λ h. h.position) t.held (record { position = c; pieces = pieces_at o b c }) (has_push s.held (record { position = c; pieces = pieces_at o b c })) in
+    let held : Contains (positions t.held) c = has_map (λ h. h.position) t.held (record { position = c; pieces = pieces_at o b c }) (Contains-push s.held (record { position = c; pieces = pieces_at o b c })) in
     let struck_again = (accepted_call o t (withdraw_cell c) (test_passed _ 9 (not_from_true _ ((has_position_decides (positions t.held) c).1 held)))).1 in
     after_append o blank cs (take_cell b c ∷ withdraw_cell c ∷ [])
     ∙ ap (λ u. step o u (withdraw_cell c)) took

@@ -1,7 +1,7 @@
 -- A list of different elements is no longer than a list that has them all.
 use Rattle.std.proofs.Common.{◌≡◌, ℕ, suc, ◌*◌, ◌≤◌, List, [], ◌∷◌, ◌++◌, length, sym, refl, ap, ◌∙◌, subst, ⊎_elim, add-mul, arith}
-use Rattle.std.specs.List.{ContainsAt as Has}
-use Rattle.std.proofs.ByRecursion.{has_append_left, has_append_right}
+use Rattle.std.specs.List.{Contains}
+use Rattle.std.proofs.lemmas.List.Elements.{Contains-append_left, Contains-append_right}
 use Rattle.std.proofs.lemmas.List.{length-append}
 use Rattle.kind.specs.Meaning.{Distinct}
 use Rattle.kind.proofs.Members.{has_none, has_here, has_there, has_cases}
@@ -10,10 +10,10 @@ use Rattle.kind.proofs.Members.{has_none, has_here, has_there, has_cases}
 record Remaining {X : Type 0} (xs : List X) (x : X) : Type 0 where
   rest : List X
   shorter : length xs ≡ suc (length rest)
-  others : (y : X) → Has xs y → (x ≡ y → ⊥) → Has rest y
+  others : (y : X) → Contains xs y → (x ≡ y → ⊥) → Contains rest y
 
 module _ {X : Type 0} where
-  remaining : (xs : List X) (x : X) → Has xs x → Remaining xs x
+  remaining : (xs : List X) (x : X) → Contains xs x → Remaining xs x
   remaining [] x h = absurd (has_none x h)
   remaining (z ∷ xs) x h =
       ⊎_elim
@@ -27,21 +27,21 @@ module _ {X : Type 0} where
       })
       (has_cases z xs x h)
 
-  pub length_within : (xs ys : List X) → Distinct xs → ((x : X) → Has xs x → Has ys x) → length xs ≤ length ys
+  pub length_within : (xs ys : List X) → Distinct xs → ((x : X) → Contains xs x → Contains ys x) → length xs ≤ length ys
   length_within [] ys d all = omega arith
   length_within (x ∷ xs) ys d all =
       let t = remaining ys x (all x (has_here x xs x refl)) in
       let e = t.shorter in
-      let short = length_within xs t.rest d.1 (λ y h. t.others y (all y (has_there x xs y h)) (λ i. d.0 (subst (Has xs) (sym i) h))) in
+      let short = length_within xs t.rest d.1 (λ y h. t.others y (all y (has_there x xs y h)) (λ i. d.0 (subst (Contains xs) (sym i) h))) in
       omega arith
 
 -- a list of at most so many elements has all of which P holds
 abbrev pub Covered : {A : Type 0} → (A → Type 0) → ℕ → Type 0
-Covered {A} P most = (all : List A) × (length all ≤ most) × ((a : A) → P a → Has all a)
+Covered {A} P most = (all : List A) × (length all ≤ most) × ((a : A) → P a → Contains all a)
 
 -- what belongs to some element of a list is covered where what belongs to each is
-pub covered_all : {X A : Type 0} (P : X → A → Type 0) (most : ℕ) (xs : List X) → ((x : X) → Has xs x → Covered (P x) most) →
-    Covered (λ a. (x : X) × Has xs x × P x a) (length xs * most)
+pub covered_all : {X A : Type 0} (P : X → A → Type 0) (most : ℕ) (xs : List X) → ((x : X) → Contains xs x → Covered (P x) most) →
+    Covered (λ a. (x : X) × Contains xs x × P x a) (length xs * most)
 covered_all P most [] each = ([], omega arith, λ a t. absurd (has_none t.0 t.1))
 covered_all P most (x ∷ xs) each =
     let here = each x (has_here x xs x refl) in
@@ -51,7 +51,7 @@ covered_all P most (x ∷ xs) each =
       here.0 ++ rest.0,
       fits,
       λ a t.
-          ⊎_elim (λ e. has_append_left here.0 rest.0 a (here.2 a (subst (λ y. P y a) (sym e) t.2)))
-          (λ later. has_append_right here.0 rest.0 a (rest.2 a (t.0, later, t.2)))
+          ⊎_elim (λ e. Contains-append_left here.0 rest.0 a (here.2 a (subst (λ y. P y a) (sym e) t.2)))
+          (λ later. Contains-append_right here.0 rest.0 a (rest.2 a (t.0, later, t.2)))
           (has_cases x xs t.0 t.1),
     )

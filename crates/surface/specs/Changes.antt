@@ -1,6 +1,6 @@
 -- What takes and withdrawals do to the lists, and that they answer it.
 use Rattle.std.specs.Prelude.{◌≡◌, ℕ, suc, ◌+◌, ◌-◌, Bool, List, [], ◌∷◌, ◌++◌, map, length, take, None, Ok, Err, filter}
-use Rattle.std.specs.List.{ContainsAt as Has}
+use Rattle.std.specs.List.{Contains}
 use Rattle.block.specs.Block.{Block}
 use Rattle.block.specs.Refusals.{plain}
 use Rattle.block.specs.declared.lattice.Point.{Point}
@@ -12,7 +12,7 @@ use Rattle.surface.specs.declared.lists.Counts.{Counts}
 
 -- a held cell that is sent again, from a source of the same sizes and whatever its samples are by now, is declined by 8 and alters nothing
 abbrev pub Resent : Type 0
-Resent = (o : Opening) → Laws o.meaning → (cs : List Call) (b : Block) (c : Point) → b.sizes ≡ o.sizes → Has (positions (after o cs).held) c →
+Resent = (o : Opening) → Laws o.meaning → (cs : List Call) (b : Block) (c : Point) → b.sizes ≡ o.sizes → Contains (positions (after o cs).held) c →
     (answer o (after o cs) (take_cell b c) ≡ Err (plain 8)) × (step o (after o cs) (take_cell b c) ≡ after o cs)
 
 -- a cell that is taken and at once withdrawn leaves the lists as they were
@@ -59,4 +59,4 @@ Followed s c =
 abbrev pub Changes : Type 0
 Changes = (o : Opening) → Laws o.meaning → (cs : List Call) →
     ((b : Block) (c : Point) → Appended o (after o cs) b c)
-    × ((c : Point) → Has (positions (after o cs).held) c → Split (after o cs).held c × Followed (after o cs) c)
+    × ((c : Point) → Contains (positions (after o cs).held) c → Split (after o cs).held c × Followed (after o cs) c)

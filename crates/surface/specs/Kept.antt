@@ -1,6 +1,6 @@
 -- What is true of the lists after every list of calls, whichever blocks were read.
 use Rattle.std.specs.Prelude.{◌≡◌, ℕ, suc, ◌≤◌, Bool, true, false, ◌&&◌, ◌||◌, ◌↔◌, List, [], ◌∷◌, map, length, Some, count_by, ◌==◌}
-use Rattle.std.specs.List.{ContainsAt as Has, slice_get}
+use Rattle.std.specs.List.{Contains, slice_get}
 use Rattle.block.specs.declared.lattice.Point.{Point}
 use Rattle.cell.specs.declared.vertex.Place.{Place}
 use Rattle.cell.specs.declared.vertex.Vertex.{Vertex}
@@ -10,16 +10,16 @@ use Rattle.surface.specs.Ledger.{Opening, Call, State, positions, pieces_of, pie
 
 -- some piece names a place
 abbrev pub Named : List Piece → Place → Type 0
-Named qs p = (q : Piece) × Has qs q × Has q p
+Named qs p = (q : Piece) × Contains qs q × Contains q p
 
 -- what holds whichever blocks were read
 pub record Kept (o : Opening) (s : State) : Type 0 where
   -- the held positions are cells, and no two are the same
-  pub cells : (c : Point) → Has (positions s.held) c → o.meaning.cell o.sizes c ≡ true
+  pub cells : (c : Point) → Contains (positions s.held) c → o.meaning.cell o.sizes c ≡ true
   pub apart : Distinct (positions s.held)
   -- no two vertices have the same place, and the listed pieces name the places of these and no others
   pub once : Distinct (places_of s.vertices)
-  pub named : (p : Place) → Has (places_of s.vertices) p ↔ Named (pieces_of s.held) p
+  pub named : (p : Place) → Contains (places_of s.vertices) p ↔ Named (pieces_of s.held) p
   -- the lists have slots
   pub cells_fit : length s.held ≤ o.rooms.cells
   pub vertices_fit : length s.vertices ≤ o.rooms.vertices
@@ -40,7 +40,7 @@ pub record Numbered (s : State) : Type 0 where
   -- a vertex's number says where it stands, counted from 1
   pub counted : (k : ℕ) (v : Vertex) → slice_get s.vertices k ≡ Some v → number s.vertices v.place ≡ suc k
   -- a piece has numbers of listed vertices alone
-  pub listed : (q : List ℕ) (n : ℕ) → Has (piece_list s) q → Has q n → (1 ≤ n) × (n ≤ length s.vertices)
+  pub listed : (q : List ℕ) (n : ℕ) → Contains (piece_list s) q → Contains q n → (1 ≤ n) × (n ≤ length s.vertices)
   -- a joint lies on as many pieces by number as by place
   pub same_count : (j : Joint) → count_by (on_numbers (map (number s.vertices) j)) (piece_list s) ≡ count_by (on j) (pieces_of s.held)
 

@@ -1,5 +1,5 @@
 -- A ledger: what it is opened on, the state of its lists, and what each call does to them and answers.
-use Rattle.std.specs.Prelude.{◌≡◌, ℕ, ◌+◌, ◌-◌, Bool, false, cond, not, ◌&&◌, ◌||◌, List, [], ◌∷◌, ◌++◌, map, length, Some, None, Ok, Err, filter, Option, Result, ◌==◌, nat_le, nat_lt}
+use Rattle.std.specs.Prelude.{◌≡◌, ℕ, ◌+◌, ◌-◌, Bool, false, if◌then◌else◌, not, ◌&&◌, ◌||◌, List, [], ◌∷◌, ◌++◌, map, length, Some, None, Ok, Err, filter, Option, Result, ◌==◌, nat_le, nat_lt}
 use Rattle.std.specs.List.{flat_map}
 use Rattle.block.specs.Block.{Block}
 use Rattle.block.specs.Refusals.{Told, plain, or_else}
@@ -95,7 +95,7 @@ struck s c = record { held = without s.held c; vertices = still_named (without s
 
 -- the refusal with a number, where a test holds
 abbrev pub refused_if : Bool → ℕ → Option Told
-refused_if test n = cond test (Some (plain n)) None
+refused_if test n = if test then Some (plain n) else None
 
 -- the first refusal of a row of checks, if any
 abbrev pub first_refusal : List (Option Told) → Option Told

@@ -1,6 +1,6 @@
 -- How many slots suffice.
 use Rattle.std.specs.Prelude.{◌≡◌, ℕ, ◌*◌, ◌<◌, ◌≤◌, true, List, length, Some}
-use Rattle.std.specs.List.{ContainsAt as Has}
+use Rattle.std.specs.List.{Contains}
 use Rattle.block.specs.Block.{Block}
 use Rattle.block.specs.Lattice.{inside, count}
 use Rattle.block.specs.Refusals.{Told}
@@ -12,7 +12,7 @@ use Rattle.surface.specs.Ledger.{Rooms, Opening, Call, take_declined, after}
 
 -- no more than so many different positions are cells
 abbrev pub CellsAtMost : Meaning → Sizes → ℕ → Type 0
-CellsAtMost m n most = (ps : List Point) → Distinct ps → ((p : Point) → Has ps p → m.cell n p ≡ true) → length ps ≤ most
+CellsAtMost m n most = (ps : List Point) → Distinct ps → ((p : Point) → Contains ps p → m.cell n p ≡ true) → length ps ≤ most
 
 -- no cell has more than so many vertices and so many pieces
 pub record EachAtMost (m : Meaning) (vertices pieces : ℕ) : Type 0 where

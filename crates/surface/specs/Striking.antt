@@ -1,5 +1,5 @@
 -- A withdrawal by numbers: which vertices the struck pieces leave unnamed, and how the other numbers follow.
-use Rattle.std.specs.Prelude.{◌≡◌, ℕ, suc, ◌-◌, Bool, false, cond, ◌&&◌, ◌||◌, List, [], ◌∷◌, ◌++◌, map, take, drop, sum_by, count_by, nat_lt}
+use Rattle.std.specs.Prelude.{◌≡◌, ℕ, suc, ◌-◌, Bool, false, if◌then◌else◌, ◌&&◌, ◌||◌, List, [], ◌∷◌, ◌++◌, map, take, drop, sum_by, count_by, nat_lt}
 use Rattle.block.specs.declared.lattice.Point.{Point}
 use Rattle.cell.specs.declared.vertex.Vertex.{Vertex}
 use Rattle.kind.specs.Meaning.{Piece}
@@ -15,7 +15,7 @@ any_names (q ∷ qs) n = has_number q n || any_names qs n
 
 -- 0 in place of a number that other pieces have
 abbrev pub spare : List (List ℕ) → ℕ → ℕ
-spare others k = cond (any_names others k) 0 k
+spare others k = if any_names others k then 0 else k
 
 -- each element changed by those before it
 abbrev pub by_before : {X : Type 0} → (List X → X → X) → List X → List X → List X
@@ -24,7 +24,7 @@ by_before f seen (x ∷ xs) = f seen x ∷ by_before f (seen ++ x ∷ []) xs
 
 -- a piece's numbers, each at its first place alone
 abbrev pub once : List ℕ → List ℕ
-once q = by_before (λ seen k. cond (has_number seen k) 0 k) [] q
+once q = by_before (λ seen k. if has_number seen k then 0 else k) [] q
 
 -- the numbers of pieces, each in its first piece alone, and there once
 abbrev pub singled : List (List ℕ) → List (List ℕ)
@@ -45,7 +45,7 @@ lowered lost k = k - below lost k
 -- the vertices from the number n on whose numbers stand in no piece
 abbrev pub unstruck : List (List ℕ) → ℕ → List Vertex → List Vertex
 unstruck lost n [] = []
-unstruck lost n (v ∷ vs) = cond (any_names lost n) (unstruck lost (suc n) vs) (v ∷ unstruck lost (suc n) vs)
+unstruck lost n (v ∷ vs) = if any_names lost n then unstruck lost (suc n) vs else v ∷ unstruck lost (suc n) vs
 
 -- the pieces of which n go, from a place on: what is left of these, and the others with the numbers that follow
 abbrev pub struck_out : ℕ → ℕ → List (List ℕ) → List (List ℕ)

@@ -1,6 +1,6 @@
 -- What is true of the lists where every accepted take read one block: they are closed and complete.
 use Rattle.std.specs.Prelude.{◌≡◌, ◌↔◌, List, count_by}
-use Rattle.std.specs.List.{ContainsAt as Has}
+use Rattle.std.specs.List.{Contains}
 use Rattle.block.specs.Block.{Block}
 use Rattle.cell.specs.declared.vertex.Side.{Side}
 use Rattle.cell.specs.declared.vertex.Vertex.{Vertex}
@@ -10,9 +10,9 @@ use Rattle.surface.specs.Ledger.{Opening, Call, Held, State, positions, pieces_o
 -- a border side belongs to exactly one held cell
 pub record Border (m : Meaning) (hs : List Held) (t : Side) : Type 0 where
   pub cell : Held
-  pub is_held : Has hs cell
-  pub is_side : Has (m.sides cell.position) t
-  pub alone : (h : Held) → Has hs h → Has (m.sides h.position) t → h.position ≡ cell.position
+  pub is_held : Contains hs cell
+  pub is_side : Contains (m.sides cell.position) t
+  pub alone : (h : Held) → Contains hs h → Contains (m.sides h.position) t → h.position ≡ cell.position
 
 -- a joint is a cut of a border side
 abbrev pub OnBorder : Opening → Block → State → Joint → Type 0
@@ -24,12 +24,12 @@ Closed o b s = (j : Joint) → IsJoint o.meaning j → Odd (count_by (on j) (pie
 
 -- a vertex of a held cell, with its place and offsets on a block
 abbrev pub Owned : Opening → Block → State → Vertex → Type 0
-Owned o b s v = (h : Held) × Has s.held h × Has (vertices_at o b h.position) v
+Owned o b s v = (h : Held) × Contains s.held h × Contains (vertices_at o b h.position) v
 
 -- every vertex of a held cell stands in the vertex list exactly once, and no other stands there
 pub record Complete (o : Opening) (b : Block) (s : State) : Type 0 where
   pub once : Distinct (places_of s.vertices)
-  pub exactly : (v : Vertex) → Has s.vertices v ↔ Owned o b s v
+  pub exactly : (v : Vertex) → Contains s.vertices v ↔ Owned o b s v
 
 -- where every accepted take read one block, the lists are closed and complete
 abbrev pub Theorem : Type 0
@@ -37,7 +37,7 @@ Theorem = (o : Opening) → Laws o.meaning → (b : Block) (cs : List Call) → 
 
 -- two lists have the same elements
 abbrev pub SameHas : {X : Type 0} → List X → List X → Type 0
-SameHas {X} xs ys = (x : X) → Has xs x ↔ Has ys x
+SameHas {X} xs ys = (x : X) → Contains xs x ↔ Contains ys x
 
 -- the same cells have the same vertices and pieces listed, in whatever order they came and whatever was withdrawn between
 abbrev pub OrderFree : Type 0

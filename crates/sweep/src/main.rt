@@ -8,8 +8,8 @@ use block::raster::Raster;
 use block::refusal::Refusal;
 use cell::level::Level;
 use kind::kind::{Kind, Shape};
-use std::io;
 use std::time::Instant;
+use std::{fmt, io};
 use voxel::held::VoxelShape;
 use voxel::voxel::Voxel;
 
@@ -20,22 +20,8 @@ const SAMPLES: usize = 32768;
 // How often each block is cut, so that the clock has something to measure.
 const ROUNDS: usize = 20;
 
-#[derive(Clone, Copy)]
-enum Scene {
-    // Below the level everywhere.
-    Empty,
-    // A ball, as a casting is: most voxels are inside or outside.
-    Smooth,
-    // Every sample by chance.
-    Random,
-    // Every voxel is cut across by a plane, with four crossings.
-    Sheets,
-    // Every edge has a crossing, and every face its centre.
-    Checkerboard,
-}
-
 // What the voxels of a block came to.
-#[derive(Clone, Copy)]
+#[derive(Clone, Copy, Default)]
 struct Tally {
     cells: usize,
     cut: usize,
@@ -43,55 +29,48 @@ struct Tally {
 }
 
 fn main(rt: HostRuntime) -> io::Result<()> {
-    let scenes = [
-        Scene::Empty,
-        Scene::Smooth,
-        Scene::Random,
-        Scene::Sheets,
-        Scene::Checkerboard,
-    ];
     let mut samples = [0i16; SAMPLES];
-    for scene in scenes {
-        fill(&mut samples, scene);
-        sweep(&rt, name(scene), &samples)?;
-    }
-    Ok(())
-}
-
-fn name(scene: Scene) -> &'static str {
-    match scene {
-        Scene::Empty => "empty",
-        Scene::Smooth => "smooth",
-        Scene::Random => "random",
-        Scene::Sheets => "sheets",
-        Scene::Checkerboard => "checkerboard",
-    }
-}
-
-fn fill(samples: &mut [i16; SAMPLES], scene: Scene) {
+    // Below the level everywhere.
+    run(&rt, "empty", &mut samples, |_| 0)?;
+    // A ball, as a casting is: most voxels are inside or outside.
+    run(&rt, "smooth", &mut samples, |Point { x, y, z }| {
+        144 - (off_centre(x) + off_centre(y) + off_centre(z)) as i16
+    })?;
+    // Every sample by chance.
     let mut seed: u32 = 1;
-    for i in 0..SAMPLES {
+    run(&rt, "random", &mut samples, |_| {
         seed = seed.wrapping_mul(1103515245).wrapping_add(12345);
-        let (x, y, z) = (
-            i as u32 % SIDE,
-            i as u32 / SIDE % SIDE,
-            i as u32 / SIDE / SIDE,
-        );
-        samples[i] = sample(scene, seed, x, y, z);
-    }
+        (seed >> 17) as i16 - 16384
+    })?;
+    // Every voxel is cut across by a plane, with four crossings.
+    run(&rt, "sheets", &mut samples, |p| (p.x % 2) as i16)?;
+    // Every edge has a crossing, and every face its centre.
+    run(
+        &rt,
+        "checkerboard",
+        &mut samples,
+        |Point { x, y, z }| ((x ^ y ^ z) % 2) as i16,
+    )
 }
 
-fn sample(scene: Scene, seed: u32, x: u32, y: u32, z: u32) -> i16 {
-    match scene {
-        Scene::Empty => 0,
-        Scene::Smooth => {
-            let square = off_centre(x) + off_centre(y) + off_centre(z);
-            144 - square as i16
-        }
-        Scene::Random => (seed >> 17) as i16 - 16384,
-        Scene::Sheets => (x % 2) as i16,
-        Scene::Checkerboard => ((x ^ y ^ z) % 2) as i16,
+// Fills a block, x fastest, then y, then z, and sweeps it.
+fn run<F: FnMut(Point) -> i16>(
+    rt: &HostRuntime,
+    name: &str,
+    samples: &mut [i16; SAMPLES],
+    mut sample: F,
+) -> io::Result<()>
+    requires { F.IsAlwaysCallable sample }
+{
+    for (i, s) in samples.iter_mut().enumerate() {
+        let i = i as u32;
+        *s = sample(Point {
+            x: i % SIDE,
+            y: i / SIDE % SIDE,
+            z: i / SIDE / SIDE,
+        });
     }
+    sweep(rt, name, samples)
 }
 
 // The square of how far a coordinate is from the middle of the block.
@@ -104,34 +83,18 @@ fn off_centre(x: u32) -> u32
 
 // Cuts a block again and again, and tells what came out and how fast it went.
 fn sweep(rt: &HostRuntime, name: &str, samples: &[i16]) -> io::Result<()> {
-    let sizes = Sizes {
-        x: SIDE,
-        y: SIDE,
-        z: SIDE,
-    };
-    let (Ok(raster), Ok(level)) = (Raster::new(sizes, samples), Level::new(1, 2)) else {
-        return println!(rt; "{name} declined");
-    };
     let start = Instant::now(rt)?;
-    let mut tally = None;
-    for _ in 0..ROUNDS {
-        tally = cut_all(&raster, level).ok();
-    }
-    let span = start.elapsed(rt)?.as_nanos();
-    match tally {
-        Some(tally) => report(rt, name, tally, span),
+    let cut = cut_often(samples);
+    let span = start.elapsed(rt)?;
+    match cut {
+        Some(tally) => report(rt, name, tally, span.as_nanos()),
         None => println!(rt; "{name} declined"),
     }
 }
 
 fn report(rt: &HostRuntime, name: &str, tally: Tally, nanos: u128) -> io::Result<()> {
-    let Tally {
-        cells,
-        cut,
-        triangles,
-    } = tally;
-    println!(rt; "{name} cells {cells} cut {cut} triangles {triangles}")?;
-    let done = cells as u128 * ROUNDS as u128;
+    println!(rt; "{name} {tally}")?;
+    let done = tally.cells as u128 * ROUNDS as u128;
     if done > 0 && nanos > 0 {
         let each = nanos / done;
         let rate = done * 1_000_000_000 / nanos;
@@ -140,13 +103,25 @@ fn report(rt: &HostRuntime, name: &str, tally: Tally, nanos: u128) -> io::Result
     Ok(())
 }
 
+// The refusal is let go: to keep it slows the voxels of an empty block.
+fn cut_often(samples: &[i16]) -> Option<Tally> {
+    let sizes = Sizes {
+        x: SIDE,
+        y: SIDE,
+        z: SIDE,
+    };
+    let raster = Raster::new(sizes, samples).ok()?;
+    let level = Level::new(1, 2).ok()?;
+    let mut tally = None;
+    for _ in 0..ROUNDS {
+        tally = cut_all(&raster, level).ok();
+    }
+    tally
+}
+
 // Every voxel, x fastest, then y, then z.
 fn cut_all(raster: &Raster, level: Level) -> Result<Tally, Refusal> {
-    let mut tally = Tally {
-        cells: 0,
-        cut: 0,
-        triangles: 0,
-    };
+    let mut tally = Tally::default();
     for z in 0..SIDE - 1 {
         for y in 0..SIDE - 1 {
             for x in 0..SIDE - 1 {
@@ -155,6 +130,17 @@ fn cut_all(raster: &Raster, level: Level) -> Result<Tally, Refusal> {
         }
     }
     Ok(tally)
+}
+
+impl fmt::Display for Tally {
+    fn fmt<W: fmt::Write>(&self, f: &mut fmt::Formatter<W>) -> fmt::Result {
+        let Tally {
+            cells,
+            cut,
+            triangles,
+        } = self;
+        write!(f, "cells {cells} cut {cut} triangles {triangles}")
+    }
 }
 
 impl Tally {

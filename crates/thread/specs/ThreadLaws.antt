@@ -1,7 +1,7 @@
 -- The thread keeps the laws of kinds.
 use Rattle.std.specs.Prelude.{◌≡◌, ℕ, true, cond, ◌&&◌, ◌⊎◌, ◌↔◌, [], ◌∷◌, count_by, ◌≢◌, refl}
 use Rattle.std.proofs.Common.{sym, ap, subst, ◌∙◌, inl, inr, ⊎_elim, arith}
-use Rattle.std.specs.List.{ContainsAt as Has}
+use Rattle.std.specs.List.{Contains}
 use Rattle.std.proofs.lemmas.Bool.{and_parts}
 use Rattle.block.specs.Block.{Block}
 use Rattle.block.specs.declared.lattice.Point.{Point}
@@ -16,19 +16,19 @@ use Rattle.kind.proofs.Places.{names_decides}
 use Rattle.thread.specs.Thread.{thread, knot, knot_place, end, after}
 
 -- a list of two, and of one
-two : {A : Type 0} (x y z : A) → Has (x ∷ y ∷ []) z → (x ≡ z) ⊎ (y ≡ z)
+two : {A : Type 0} (x y z : A) → Contains (x ∷ y ∷ []) z → (x ≡ z) ⊎ (y ≡ z)
 two x y z h = ⊎_elim (λ e. inl e) (λ r. ⊎_elim (λ e. inr e) (λ n. absurd (has_none z n)) (has_cases y [] z r)) (has_cases x (y ∷ []) z h)
 
-first : {A : Type 0} (x y : A) → Has (x ∷ y ∷ []) x
+first : {A : Type 0} (x y : A) → Contains (x ∷ y ∷ []) x
 first x y = has_here x (y ∷ []) x refl
 
-second : {A : Type 0} (x y : A) → Has (x ∷ y ∷ []) y
+second : {A : Type 0} (x y : A) → Contains (x ∷ y ∷ []) y
 second x y = has_there x (y ∷ []) y (has_here y [] y refl)
 
-one : {A : Type 0} (x z : A) → Has (x ∷ []) z → x ≡ z
+one : {A : Type 0} (x z : A) → Contains (x ∷ []) z → x ≡ z
 one x z h = ⊎_elim (λ e. e) (λ n. absurd (has_none z n)) (has_cases x [] z h)
 
-only : {A : Type 0} (x : A) → Has (x ∷ []) x
+only : {A : Type 0} (x : A) → Contains (x ∷ []) x
 only x = has_here x [] x refl
 
 knot_inj : (p q : Point) → knot_place p ≡ knot_place q → p ≡ q
@@ -58,10 +58,10 @@ knot_cut : (b : Block) (l : Level) (s : Side) → CutOf thread b l s (knot_place
 knot_cut b l s = (knot_place s.point ∷ [], only (knot_place s.point ∷ []), λ p. (λ h. h, λ h. h))
 
 -- a place lies on the piece exactly where it is one of the two knots
-on_piece : (c : Point) (p : Place) → on (p ∷ []) (piece c) ≡ true → Has (piece c) p
+on_piece : (c : Point) (p : Place) → on (p ∷ []) (piece c) ≡ true → Contains (piece c) p
 on_piece c p t = (names_decides (knot_place c ∷ knot_place (after c) ∷ []) p).0 (and_parts (names (knot_place c ∷ knot_place (after c) ∷ []) p) true t).0
 
-has_on : (c : Point) (p : Place) → Has (piece c) p → on (p ∷ []) (piece c) ≡ true
+has_on : (c : Point) (p : Place) → Contains (piece c) p → on (p ∷ []) (piece c) ≡ true
 has_on c p h = ap (λ t. t && true) ((names_decides (knot_place c ∷ knot_place (after c) ∷ []) p).1 h)
 
 one_parity : (b : Block) (l : Level) (c : Point) (p : Place) → Odd (count_by (on (p ∷ [])) (thread.pieces b l c)) ↔ CutOfCell thread b l c (p ∷ [])
@@ -70,7 +70,7 @@ one_parity b l c p = (to, from)
     to : Odd (count_by (on (p ∷ [])) (piece c ∷ [])) → CutOfCell thread b l c (p ∷ [])
     to h =
         let t = counted (on (p ∷ [])) (piece c ∷ []) (omega arith) in
-        let k : Has (piece c) p = on_piece c p (subst (λ q. on (p ∷ []) q ≡ true) (sym (one (piece c) t.0 t.1)) t.2) in
+        let k : Contains (piece c) p = on_piece c p (subst (λ q. on (p ∷ []) q ≡ true) (sym (one (piece c) t.0 t.1)) t.2) in
         ⊎_elim
         (λ e. (end c, first (end c) (end (after c)), subst (λ q. CutOf thread b l (end c) (q ∷ [])) e (knot_cut b l (end c))))
         (λ e. (end (after c), second (end c) (end (after c)), subst (λ q. CutOf thread b l (end (after c)) (q ∷ [])) e (knot_cut b l (end (after c)))))
@@ -79,10 +79,10 @@ one_parity b l c p = (to, from)
     from : CutOfCell thread b l c (p ∷ []) → Odd (count_by (on (p ∷ [])) (piece c ∷ []))
     from k =
         let at = cut_knot b l k.0 p k.2 in
-        let h : Has (piece c) p =
+        let h : Contains (piece c) p =
         ⊎_elim
-        (λ e. subst (Has (piece c)) (ap (λ s. knot_place s.point) e ∙ at) (first (knot_place c) (knot_place (after c))))
-        (λ e. subst (Has (piece c)) (ap (λ s. knot_place s.point) e ∙ at) (second (knot_place c) (knot_place (after c))))
+        (λ e. subst (Contains (piece c)) (ap (λ s. knot_place s.point) e ∙ at) (first (knot_place c) (knot_place (after c))))
+        (λ e. subst (Contains (piece c)) (ap (λ s. knot_place s.point) e ∙ at) (second (knot_place c) (knot_place (after c))))
         (two (end c) (end (after c)) k.0 k.1) in
         let one_more = ap (λ t. cond {A = ℕ} t 1 0) (has_on c p h) in
         omega (arith, count_cons (on (p ∷ [])) (piece c) [])
@@ -93,7 +93,7 @@ parity b l c (p ∷ []) h = one_parity b l c p
 parity b l c (p ∷ q ∷ j) h = absurd (let e = h.0 in omega arith)
 
 -- a side has one axis
-side_is : (c : Point) (s : Side) → Has (end c ∷ end (after c) ∷ []) s → end s.point ≡ s
+side_is : (c : Point) (s : Side) → Contains (end c ∷ end (after c) ∷ []) s → end s.point ≡ s
 side_is c s h = ⊎_elim (λ e. subst (λ t. end t.point ≡ t) e refl) (λ e. subst (λ t. end t.point ≡ t) e refl) (two (end c) (end (after c)) s h)
 
 same_knot : (b : Block) (l : Level) (s t : Side) (j : Joint) → CutOf thread b l s j → CutOf thread b l t j → s.point ≡ t.point
@@ -105,7 +105,7 @@ same_knot b l s t j h k =
     sym (knot_inj t.point s.point (one (knot_place t.point) (knot_place s.point) ((q (knot_place s.point)).1 ((p (knot_place s.point)).0 (only (knot_place s.point))))))
 
 -- a side lies at the start of one cell and at the end of another
-starts : (c : Point) (s : Side) → Has (end c ∷ end (after c) ∷ []) s → (c ≡ s.point) ⊎ (after c ≡ s.point)
+starts : (c : Point) (s : Side) → Contains (end c ∷ end (after c) ∷ []) s → (c ≡ s.point) ⊎ (after c ≡ s.point)
 starts c s h = ⊎_elim (λ e. inl (ap (λ t. t.point) e)) (λ e. inr (ap (λ t. t.point) e)) (two (end c) (end (after c)) s h)
 
 two_of_three : (q c d e : Point) → (c ≡ q) ⊎ (after c ≡ q) → (d ≡ q) ⊎ (after d ≡ q) → (e ≡ q) ⊎ (after e ≡ q) → (c ≡ d) ⊎ (d ≡ e) ⊎ (c ≡ e)
@@ -116,14 +116,14 @@ two_of_three q c d e (inr x) (inl y) (inl z) = inr (inl (y ∙ sym z))
 two_of_three q c d e (inr x) (inl y) (inr z) = inr (inr (after_inj c e (x ∙ sym z)))
 two_of_three q c d e (inr x) (inr y) z = inl (after_inj c d (x ∙ sym y))
 
-named : (c : Point) (p : Place) → Has (knot_place c ∷ knot_place (after c) ∷ []) p ↔ ((q : Piece) × Has ((knot_place c ∷ knot_place (after c) ∷ []) ∷ []) q × Has q p)
+named : (c : Point) (p : Place) → Contains (knot_place c ∷ knot_place (after c) ∷ []) p ↔ ((q : Piece) × Contains ((knot_place c ∷ knot_place (after c) ∷ []) ∷ []) q × Contains q p)
 named c p = (
   λ h. (knot_place c ∷ knot_place (after c) ∷ [], only (knot_place c ∷ knot_place (after c) ∷ []), h),
-  λ n. subst (λ q. Has q p) (sym (one (knot_place c ∷ knot_place (after c) ∷ []) n.0 n.1)) n.2,
+  λ n. subst (λ q. Contains q p) (sym (one (knot_place c ∷ knot_place (after c) ∷ []) n.0 n.1)) n.2,
 )
 
 -- a vertex by its place
-by_place : (c : Point) (v : Vertex) → Has (knot c ∷ knot (after c) ∷ []) v → v ≡ knot v.place.point
+by_place : (c : Point) (v : Vertex) → Contains (knot c ∷ knot (after c) ∷ []) v → v ≡ knot v.place.point
 by_place c v h = ⊎_elim (λ e. subst (λ w. w ≡ knot w.place.point) e refl) (λ e. subst (λ w. w ≡ knot w.place.point) e refl) (two (knot c) (knot (after c)) v h)
 
 pub thread_laws : Laws thread

@@ -3,11 +3,10 @@ use block::lattice::Point;
 use cell::vertex::Vertex;
 use kind::segment::Segment;
 
-// A bead lies between a point and the next along x; its two knots are its vertices.
+// A bead lies between a point and the next along x; the knots at its two ends are its vertices.
 #[derive(Clone, Copy)]
 pub struct Bead {
-    pub(crate) start: Point,
-    pub(crate) finish: Point,
+    pub(crate) ends: [Point; 2],
     pub(crate) knots: [Vertex; 2],
     pub(crate) segment: [Segment; 1],
 }

@@ -1,5 +1,5 @@
 // The kind itself.
-ghost use Rattle.std.specs.Prelude.{◌≡◌, ◌+◌, ◌^◌, ◌<◌, true, refl};
+ghost use Rattle.std.specs.Prelude.{◌≡◌, ◌+◌, ◌^◌, ◌<◌, [], ◌∷◌, refl};
 ghost use Rattle.thread.specs.Held.{held_borders};
 ghost use Rattle.thread.specs.Thread.{thread, is_bead, knot, after};
 ghost use Rattle.thread.specs.ThreadLaws.{thread_laws};
@@ -8,16 +8,19 @@ use crate::bead::Bead;
 use block::lattice::{Point, Sizes};
 use block::refusal::Refusal;
 use block::source::Source;
-use cell::corner::height_at;
+use cell::corner::heights_at;
 use cell::crossing::Offset;
 use cell::level::Level;
-use cell::vertex::{Axis, Form, Place, Side, Vertex};
+use cell::vertex::{Axis, Place, Side, Vertex};
 use kind::joint::Joint;
 use kind::kind::{Kind, Shape};
 use kind::segment::Segment;
 
 #[derive(Clone, Copy)]
 pub struct Thread;
+
+// The step from a point to the next.
+const NEXT: Point = Point { x: 1, y: 0, z: 0 };
 
 impl Shape<Segment> for Bead {
     ghost points = { λ b. b.knots };
@@ -35,41 +38,22 @@ impl Shape<Segment> for Bead {
     }
 
     fn side(&self, n: usize) -> Option<Side> {
-        match n {
-            0 => Some(Side {
-                axis: Axis::X,
-                point: self.start,
-            }),
-            1 => Some(Side {
-                axis: Axis::X,
-                point: self.finish,
-            }),
-            _ => None,
-        }
+        let end = self.ends.get(n)?;
+        Some(Side {
+            axis: Axis::X,
+            point: *end,
+        })
     }
 
     fn cut(&self, side: usize, n: usize) -> Option<Joint> {
-        match (side, n) {
-            (0, 0) => Some(Joint {
-                first: place(self.start),
-                second: None,
-            }),
-            (1, 0) => Some(Joint {
-                first: place(self.finish),
-                second: None,
-            }),
-            _ => None,
+        let end = self.ends.get(side)?;
+        if n != 0 {
+            return None;
         }
-    }
-}
-
-fn place(point: Point) -> Place
-    ensures answer { result ≡ (knot point).place }
-{
-    Place {
-        form: Some(Form::Face),
-        axis: Some(Axis::X),
-        point,
+        Some(Joint {
+            first: Place::in_face(Axis::X, *end),
+            second: None,
+        })
     }
 }
 
@@ -86,7 +70,15 @@ fn tie(point: Point) -> Vertex
 pub fn is_bead(sizes: Sizes, at: Point) -> bool
     ensures answer { result ≡ is_bead sizes at }
 {
-    at.x < sizes.x && at.x + 1 < sizes.x && at.y < sizes.y && at.z < sizes.z
+    sizes.contains(at.plus(NEXT))
+}
+
+// A bead's corners.
+fn ends(at: Point) -> [Point; 2]
+    requires { at.x + 1 < 2 ^ 32 }
+    ensures answer { result ≡ at ∷ after at ∷ [] }
+{
+    [at, at.plus(NEXT)]
 }
 
 impl Kind for Thread {
@@ -108,32 +100,18 @@ impl Kind for Thread {
         if !is_bead(sizes, at) {
             return None;
         }
-        match n {
-            0 => Some(at),
-            1 => Some(Point {
-                x: at.x + 1,
-                y: at.y,
-                z: at.z,
-            }),
-            _ => None,
-        }
+        ends(at).get(n).copied()
     }
 
     fn read<S: Source>(&self, source: &S, level: Level, at: Point) -> Result<Bead, Refusal> {
         if !is_bead(source.sizes(), at) {
             return Err(Refusal::NoCell);
         }
-        let finish = Point {
-            x: at.x + 1,
-            y: at.y,
-            z: at.z,
-        };
-        height_at(source, level, at)?;
-        height_at(source, level, finish)?;
+        let ends = ends(at);
+        heights_at(source, level, &ends)?;
         Ok(Bead {
-            start: at,
-            finish,
-            knots: [tie(at), tie(finish)],
+            ends,
+            knots: ends.map(tie),
             segment: [Segment { from: 1, to: 2 }],
         })
     }

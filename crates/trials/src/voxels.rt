@@ -1,71 +1,63 @@
-use block::lattice::{Point, Sizes};
+use crate::common::{point, refusal, sizes};
+use block::fault::{Cause, Fault};
+use block::lattice::Point;
 use block::raster::Raster;
 use block::refusal::Refusal;
 use cell::level::Level;
 use kind::kind::{Kind, Shape};
 use voxel::voxel::Voxel;
 
-// The vertices and triangles of the voxel at a point of a block of 2, 2, 2 at level 1/2, or the number of its refusal.
-fn counts(samples: &[i16; 8], at: Point) -> (usize, usize, u8) {
-    let sizes = Sizes { x: 2, y: 2, z: 2 };
-    let (Ok(raster), Ok(level)) = (Raster::new(sizes, samples), Level::new(1, 2)) else {
-        return (0, 0, 255);
-    };
-    match Voxel.read(&raster, level, at) {
-        Ok(shape) => (shape.vertices().len(), shape.pieces().len(), 0),
-        Err(refusal) => (0, 0, refusal.number()),
-    }
-}
-
 const LOWEST: Point = Point { x: 0, y: 0, z: 0 };
+
+// The vertices and triangles of the voxel at a point of a block of 2, 2, 2, at level p / q.
+fn counts(samples: &[i16; 8], p: i32, q: u32, at: Point) -> Result<(usize, usize), Refusal> {
+    let raster = Raster::new(sizes(2, 2, 2), samples)?;
+    let shape = Voxel.read(&raster, Level::new(p, q)?, at)?;
+    Ok((shape.vertices().len(), shape.pieces().len()))
+}
 
 #[test]
 fn counts_of_voxels(rt: HostRuntime) {
-    assert_eq!(rt; counts(&[0, 0, 0, 0, 0, 0, 0, 0], LOWEST), (0, 0, 0));
-    assert_eq!(rt; counts(&[1, 0, 0, 0, 0, 0, 0, 0], LOWEST), (3, 1, 0));
-    assert_eq!(rt; counts(&[1, 1, 1, 1, 0, 0, 0, 0], LOWEST), (4, 2, 0));
-    assert_eq!(rt; counts(&[1, 0, 0, 1, 0, 1, 1, 0], LOWEST), (18, 18, 0));
+    assert_eq!(rt; counts(&[0, 0, 0, 0, 0, 0, 0, 0], 1, 2, LOWEST), Ok((0, 0)));
+    assert_eq!(rt; counts(&[1, 0, 0, 0, 0, 0, 0, 0], 1, 2, LOWEST), Ok((3, 1)));
+    assert_eq!(rt; counts(&[1, 1, 1, 1, 0, 0, 0, 0], 1, 2, LOWEST), Ok((4, 2)));
+    assert_eq!(rt;
+        counts(&[1, 0, 0, 1, 0, 1, 1, 0], 1, 2, LOWEST),
+        Ok((18, 18))
+    );
 }
 
 #[test]
 fn past_the_last_voxel(rt: HostRuntime) {
     let samples = [1, 0, 0, 0, 0, 0, 0, 0];
-    assert_eq!(rt; counts(&samples, Point { x: 1, y: 0, z: 0 }), (0, 0, 7));
-    assert_eq!(rt; counts(&samples, Point { x: 0, y: 1, z: 0 }), (0, 0, 7));
-    assert_eq!(rt; counts(&samples, Point { x: 0, y: 0, z: 1 }), (0, 0, 7));
+    assert_eq!(rt; refusal(counts(&samples, 1, 2, point(1, 0, 0))), Some(7));
+    assert_eq!(rt; refusal(counts(&samples, 1, 2, point(0, 1, 0))), Some(7));
+    assert_eq!(rt; refusal(counts(&samples, 1, 2, point(0, 0, 1))), Some(7));
     assert_eq!(rt;
-        counts(
-            &samples,
-            Point {
-                x: 4294967295,
-                y: 0,
-                z: 0,
-            },
-        ),
-        (0, 0, 7)
+        refusal(counts(&samples, 1, 2, point(4294967295, 0, 0))),
+        Some(7)
     );
 }
 
-// The refusal at level 0, told as its number and its point.
-fn refused(samples: &[i16; 8]) -> (u8, u32, u32, u32) {
-    let sizes = Sizes { x: 2, y: 2, z: 2 };
-    let (Ok(raster), Ok(level)) = (Raster::new(sizes, samples), Level::new(0, 1)) else {
-        return (255, 0, 0, 0);
-    };
-    match Voxel.read(&raster, level, LOWEST) {
-        Ok(_) => (0, 0, 0, 0),
-        Err(Refusal::Faulty(fault)) => (10, fault.point.x, fault.point.y, fault.point.z),
-        Err(Refusal::OnLevel(p)) => (11, p.x, p.y, p.z),
-        Err(other) => (other.number(), 0, 0, 0),
-    }
+fn missing(x: u32, y: u32, z: u32) -> Refusal {
+    Refusal::Faulty(Fault::new(Cause::Missing, point(x, y, z)))
+}
+
+fn on_level(x: u32, y: u32, z: u32) -> Refusal {
+    Refusal::OnLevel(point(x, y, z))
 }
 
 // The lowest-numbered corner that does not serve decides.
 #[test]
 fn deciding_corners(rt: HostRuntime) {
-    assert_eq!(rt; refused(&[1, 1, 1, 1, 1, 1, 1, 0]), (11, 1, 1, 1));
-    assert_eq!(rt; refused(&[1, 1, 1, 1, 1, 1, 1, -32768]), (10, 1, 1, 1));
-    assert_eq!(rt; refused(&[1, 1, 0, 1, -32768, 1, 1, 1]), (11, 0, 1, 0));
-    assert_eq!(rt; refused(&[1, -32768, 1, 1, 0, 1, 1, 1]), (10, 1, 0, 0));
-    assert_eq!(rt; refused(&[1, 1, 1, 1, -32768, 0, 1, 1]), (10, 0, 0, 1));
+    for (samples, number, decided) in [
+        ([1, 1, 1, 1, 1, 1, 1, 0], 11, on_level(1, 1, 1)),
+        ([1, 1, 1, 1, 1, 1, 1, -32768], 10, missing(1, 1, 1)),
+        ([1, 1, 0, 1, -32768, 1, 1, 1], 11, on_level(0, 1, 0)),
+        ([1, -32768, 1, 1, 0, 1, 1, 1], 10, missing(1, 0, 0)),
+        ([1, 1, 1, 1, -32768, 0, 1, 1], 10, missing(0, 0, 1)),
+    ] {
+        assert_eq!(rt; counts(&samples, 0, 1, LOWEST), Err(decided));
+        assert_eq!(rt; decided.number(), number);
+    }
 }

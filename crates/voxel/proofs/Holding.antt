@@ -1,7 +1,7 @@
 -- What a shape holds is what its voxel means.
 use Rattle.std.proofs.Common.{◌≡◌, ℕ, suc, ◌<◌, Bool, cond, List, [], ◌∷◌, map, get_or, ℤ, pos, Some, None, filter, sym, refl, ap, ◌∙◌, ap₂, arith, lit<}
-use Rattle.std.specs.List.{ContainsAt as Has, AllByRecursion}
-use Rattle.std.proofs.ByRecursion.{all-has}
+use Rattle.std.specs.List.{Contains, All}
+use Rattle.std.proofs.lemmas.List.Elements.{All-contains}
 use Rattle.std.proofs.lemmas.Bool.{le-ltb, cond-false}
 use Rattle.block.specs.Block.{Block}
 use Rattle.block.specs.declared.lattice.Point.{Point}
@@ -32,7 +32,7 @@ use Rattle.shell.proofs.Heights.{same_segments}
 use Rattle.shell.proofs.Faces.{at_map}
 
 -- ---- lists
-map_same : {X Y : Type 0} (f g : X → Y) (xs : List X) → ((x : X) → Has xs x → f x ≡ g x) → map f xs ≡ map g xs
+map_same : {X Y : Type 0} (f g : X → Y) (xs : List X) → ((x : X) → Contains xs x → f x ≡ g x) → map f xs ≡ map g xs
 map_same f g [] e = refl
 map_same f g (x ∷ xs) e = ap₂ (λ y ys. y ∷ ys) (e x (has_here x xs x refl)) (map_same f g xs (λ z h. e z (has_there x xs z h)))
 
@@ -40,11 +40,11 @@ map_same f g (x ∷ xs) e = ap₂ (λ y ys. y ∷ ys) (e x (has_here x xs x refl
 pub from_off : (hs : List Height) → Off (by_corner hs) → AllOff hs
 from_off hs off = le-ltb _ 8 (let e = lowest_none (λ j. on_level (by_corner hs j)) 8 off in omega arith)
 
-below : AllByRecursion (λ w. w < local_vertices) local_order
+below : All (λ w. w < local_vertices) local_order
 below = (lit< tt, (lit< tt, (lit< tt, (lit< tt, (lit< tt, (lit< tt, (lit< tt, (lit< tt, (lit< tt, (lit< tt, (lit< tt, (lit< tt, (lit< tt, (lit< tt, (lit< tt, (lit< tt, (lit< tt, (lit< tt, tt))))))))))))))))))
 
-vertex_below : (p : ℕ → Bool) (v : ℕ) → Has (filter p local_order) v → v < local_vertices
-vertex_below p v h = all-has (λ w. w < local_vertices) local_order v below (kept_has p local_order v h).0
+vertex_below : (p : ℕ → Bool) (v : ℕ) → Contains (filter p local_order) v → v < local_vertices
+vertex_below p v h = All-contains (λ w. w < local_vertices) local_order v below (kept_has p local_order v h).0
 
 -- a local vertex stands at its place
 pub place_local : (c : Point) (g : ℕ → ℤ) (v : ℕ) → v < local_vertices → (local_vertex c g v).place ≡ place_of c v
@@ -73,13 +73,13 @@ module _ (b : Block) (l : Level) (at : Point) (hs : List Height) (e : HeightsAt 
       (λ v h. local_is v (vertex_below (is_on (segments b l at)) v h))
 
   -- the number of a place among vertices is the rank of its local vertex
-  number_rank : (vs : List ℕ) (t : ℕ) → ((v : ℕ) → Has vs v → v < local_vertices) → t < local_vertices
+  number_rank : (vs : List ℕ) (t : ℕ) → ((v : ℕ) → Contains vs v → v < local_vertices) → t < local_vertices
       → number (map (λ v. vertex_at b l (place_of at v)) vs) (place_of at t) ≡ rank vs t
   number_rank [] t low lt = refl
   number_rank (v ∷ vs) t low lt =
       λ i. cond (place_test at v t (low v (has_here v vs v refl)) lt i) 1 (suc (number_rank vs t (λ w h. low w (has_there v vs w h)) lt i))
 
-  numbers_are : (vs : List ℕ) (ts : List Triangle) → ((v : ℕ) → Has vs v → v < local_vertices) → AllByRecursion Proper ts
+  numbers_are : (vs : List ℕ) (ts : List Triangle) → ((v : ℕ) → Contains vs v → v < local_vertices) → All Proper ts
       → map (map (number (map (λ v. vertex_at b l (place_of at v)) vs))) (map (piece_of at) ts) ≡ map (numbered vs) ts
   numbers_are vs [] low p = refl
   numbers_are vs (t ∷ ts) low p =
@@ -87,7 +87,7 @@ module _ (b : Block) (l : Level) (at : Point) (hs : List Height) (e : HeightsAt 
       let lt1 : t.1 < local_vertices = omega (arith, q.2, q.4) in
       λ i. (number_rank vs t.0 low q.3 i ∷ number_rank vs t.1 low lt1 i ∷ number_rank vs t.2 low q.4 i ∷ []) ∷ numbers_are vs ts low p.1 i
 
-  pub pieces_held : AllByRecursion Proper (triangles (segments b l at))
+  pub pieces_held : All Proper (triangles (segments b l at))
       → map (numbered (vertices_on (voxel_segments (by_corner hs)))) (triangles (voxel_segments (by_corner hs))) ≡ map (map (number (voxel.vertices b l at))) (voxel.pieces b l at)
   pieces_held p =
       ap (λ ss. map (numbered (vertices_on ss)) (triangles ss)) segments_same
@@ -119,7 +119,7 @@ module _ (b : Block) (l : Level) (at : Point) (hs : List Height) (e : HeightsAt 
     pub read_off : AllOff hs
     read_off = from_off hs (λ k h. ap on_level (corner_same k h) ∙ rules_off k h)
 
-    pub triangles_proper : AllByRecursion Proper (triangles (segments b l at))
+    pub triangles_proper : All Proper (triangles (segments b l at))
     triangles_proper = (shells (heights b l at) rules_off).0.proper
 
     -- so the code does not refuse them

@@ -1,5 +1,5 @@
 -- The local vertices of a voxel, from the heights at its corners.
-use Rattle.std.specs.Prelude.{ℕ, suc, cond, List, [], ◌∷◌, map, ℤ, ◌==◌, slice_index_or}
+use Rattle.std.specs.Prelude.{ℕ, suc, if◌then◌else◌, List, [], ◌∷◌, map, ℤ, ◌==◌, slice_index_or}
 use Rattle.block.specs.declared.lattice.Point.{Point}
 use Rattle.cell.specs.Crossing.{along_edge}
 use Rattle.cell.specs.Face.{FaceSegment, face_segments, centre_offsets}
@@ -47,7 +47,7 @@ local_vertex c g v = slice_index_or (all_local c g) v (centre_vertex c g Z 4 5 6
 -- the number of a local vertex among others, counted from 1; one more than there are where it is not among them
 abbrev pub rank : List ℕ → ℕ → ℕ
 rank [] v = 1
-rank (u ∷ us) v = cond (u == v) 1 (suc (rank us v))
+rank (u ∷ us) v = if u == v then 1 else suc (rank us v)
 
 abbrev pub numbered : List ℕ → Triangle → List ℕ
 numbered vs t = rank vs t.0 ∷ rank vs t.1 ∷ rank vs t.2 ∷ []

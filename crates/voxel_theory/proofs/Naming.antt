@@ -1,7 +1,7 @@
 -- The vertices of a voxel: no two at one place, those that its pieces name, and no more than eighteen.
 use Rattle.std.proofs.Common.{◌≡◌, ℕ, ◌<◌, ◌≤◌, true, ◌||◌, eqb, ◌⊎◌, ◌↔◌, List, [], ◌∷◌, map, length, sym, refl, ap, subst, inl, inr, ⊎_elim, arith}
-use Rattle.std.specs.List.{ContainsAt as Has}
-use Rattle.std.proofs.ByRecursion.{all-has}
+use Rattle.std.specs.List.{Contains}
+use Rattle.std.proofs.lemmas.List.Elements.{All-contains}
 use Rattle.std.proofs.lemmas.Bool.{ltb-true, lt-ltb, eqb-true, eq-eqb, or_cases, or_left, or_right}
 use Rattle.block.specs.Block.{Block}
 use Rattle.block.specs.declared.lattice.Point.{Point}
@@ -29,7 +29,7 @@ apart b l c =
     (distinct_kept (place_of c) (is_on (segments b l c)) local_order (places_distinct c))
 
 -- a vertex is that of its place
-pub vertex_is : (b : Block) (l : Level) (c : Point) (v : Vertex) → Has (vertices b l c) v → v ≡ vertex_at b l v.place
+pub vertex_is : (b : Block) (l : Level) (c : Point) (v : Vertex) → Contains (vertices b l c) v → v ≡ vertex_at b l v.place
 vertex_is b l c v h =
     let t = map_has (λ v. vertex_at b l (place_of c v)) (vertices_on (segments b l c)) v h in
     subst (λ (w : Vertex). w ≡ vertex_at b l w.place) t.2 refl
@@ -38,7 +38,7 @@ pub at_most_eighteen : (b : Block) (l : Level) (c : Point) → length (vertices 
 at_most_eighteen b l c = length_kept (λ v. vertex_at b l (place_of c v)) (is_on (segments b l c)) local_order
 
 -- a triangle's piece has the places of the vertices that the triangle names
-piece_has : (c : Point) (t : Triangle) (m : ℕ) → names_vertex m t ≡ true → Has (piece_of c t) (place_of c m)
+piece_has : (c : Point) (t : Triangle) (m : ℕ) → names_vertex m t ≡ true → Contains (piece_of c t) (place_of c m)
 unfolding names_vertex
 piece_has c t m h =
     let here : (k : ℕ) → eqb k m ≡ true → place_of c k ≡ place_of c m = λ k e. ap (place_of c) (eqb-true k m e) in
@@ -47,7 +47,7 @@ piece_has c t m h =
     (λ e. inr (inr (here t.2 e)))
     (or_cases (eqb t.0 m || eqb t.1 m) (eqb t.2 m) h))
 
-has_piece : (c : Point) (t : Triangle) (p : Place) → Proper t → Has (piece_of c t) p → (m : ℕ) × (m < local_vertices) × (names_vertex m t ≡ true) × (place_of c m ≡ p)
+has_piece : (c : Point) (t : Triangle) (p : Place) → Proper t → Contains (piece_of c t) p → (m : ℕ) × (m < local_vertices) × (names_vertex m t ≡ true) × (place_of c m ≡ p)
 unfolding names_vertex
 has_piece c t p q h = go (three_cases (place_of c t.0) (place_of c t.1) (place_of c t.2) p h)
   where
@@ -60,26 +60,26 @@ has_piece c t p q h = go (three_cases (place_of c t.0) (place_of c t.1) (place_o
     go (inr (inr e)) = (t.2, q.4, or_right _ _ (self t.2), e)
 
 module _ (b : Block) (l : Level) (c : Point) (filled : Filled (segments b l c) (triangles (segments b l c))) where
-  pub named : (p : Place) → Has (places_of (vertices b l c)) p ↔ ((q : Piece) × Has (pieces b l c) q × Has q p)
+  pub named : (p : Place) → Contains (places_of (vertices b l c)) p ↔ ((q : Piece) × Contains (pieces b l c) q × Contains q p)
   unfolding uses
   named p = (to, from)
     where
-      to : Has (places_of (vertices b l c)) p → (q : Piece) × Has (pieces b l c) q × Has q p
+      to : Contains (places_of (vertices b l c)) p → (q : Piece) × Contains (pieces b l c) q × Contains q p
       to h =
           let ts = triangles (segments b l c) in
-          let k = map_has (place_of c) (vertices_on (segments b l c)) p (subst (λ ps. Has ps p) (places_are b l c (vertices_on (segments b l c))) h) in
+          let k = map_has (place_of c) (vertices_on (segments b l c)) p (subst (λ ps. Contains ps p) (places_are b l c (vertices_on (segments b l c))) h) in
           let m = k.0 in
           let d = ltb-true 0 (degree (segments b l c) m) (kept_has (is_on (segments b l c)) local_order m k.1).1 in
           let t = counted (names_vertex m) ts ((filled.named m).1 d) in
-          (piece_of c t.0, has_map (piece_of c) ts t.0 t.1, subst (Has (piece_of c t.0)) k.2 (piece_has c t.0 m t.2))
+          (piece_of c t.0, has_map (piece_of c) ts t.0 t.1, subst (Contains (piece_of c t.0)) k.2 (piece_has c t.0 m t.2))
 
-      from : (q : Piece) × Has (pieces b l c) q × Has q p → Has (places_of (vertices b l c)) p
+      from : (q : Piece) × Contains (pieces b l c) q × Contains q p → Contains (places_of (vertices b l c)) p
       from h =
           let ts = triangles (segments b l c) in
           let t = map_has (piece_of c) ts h.0 h.1 in
-          let k = has_piece c t.0 p (all-has Proper ts t.0 filled.proper t.1) (subst (λ q. Has q p) (sym t.2) h.2) in
+          let k = has_piece c t.0 p (All-contains Proper ts t.0 filled.proper t.1) (subst (λ q. Contains q p) (sym t.2) h.2) in
           let m = k.0 in
           let d = (filled.named m).0 (has_counted (names_vertex m) ts t.0 t.1 k.2) in
           let kept = has_kept (is_on (segments b l c)) local_order m (lt-ltb 0 (degree (segments b l c) m) d) (order_has m k.1) in
-          subst (λ ps. Has ps p) (sym (places_are b l c (vertices_on (segments b l c))))
-          (subst (Has (map (place_of c) (vertices_on (segments b l c)))) k.3 (has_map (place_of c) (vertices_on (segments b l c)) m kept))
+          subst (λ ps. Contains ps p) (sym (places_are b l c (vertices_on (segments b l c))))
+          (subst (Contains (map (place_of c) (vertices_on (segments b l c)))) k.3 (has_map (place_of c) (vertices_on (segments b l c)) m kept))

@@ -1,8 +1,8 @@
 -- A joint lies on an odd number of a voxel's triangles exactly when it is a cut of one of its sides.
 use Rattle.std.proofs.Common.{◌≡◌, ℕ, ◌+◌, ◌<◌, Bool, true, false, cond, ◌&&◌, ◌||◌, eqb, ◌≢◌, ◌⊎◌, ◌↔◌, List, [], ◌∷◌, ◌++◌, map, count_by, sym, refl, ap, ◌∙◌, subst, ap₂, inl, inr, ⊎_elim, arith}
 use mathlib.Core.Bool.{and-true}
-use Rattle.std.specs.List.{ContainsAt as Has, AllByRecursion}
-use Rattle.std.proofs.ByRecursion.{has_get_or}
+use Rattle.std.specs.List.{Contains, All}
+use Rattle.std.proofs.lemmas.List.Elements.{at_from_Contains, All-head, All-tail, Contains-get_or}
 use Rattle.std.proofs.lemmas.List.Sums.{sum_by-cons}
 use Rattle.std.proofs.lemmas.Bool.{and_left, and_right, or_cases, or_left, or_right, false≢true, cases_Bool, cond-false}
 use Rattle.block.specs.Block.{Block}
@@ -48,7 +48,7 @@ linked_right (s ∷ ss) ts m n h = or_right (joins m n s) (linked (ss ++ ts) m n
 abbrev put : Placed → FaceSegment → Segment
 put f t = (f.point t.0, f.point t.1)
 
-linked_placed : (f : Placed) (ts : List FaceSegment) (m n : ℕ) → linked (placed f ts) m n ≡ true → (t : FaceSegment) × Has ts t × (joins m n (put f t) ≡ true)
+linked_placed : (f : Placed) (ts : List FaceSegment) (m n : ℕ) → linked (placed f ts) m n ≡ true → (t : FaceSegment) × Contains ts t × (joins m n (put f t) ≡ true)
 unfolding linked
 linked_placed f [] m n h = absurd (false≢true h)
 linked_placed f (t ∷ ts) m n h =
@@ -56,7 +56,7 @@ linked_placed f (t ∷ ts) m n h =
     (λ r. let u = linked_placed f ts m n r in (u.0, has_there t ts u.0 u.1, u.2))
     (or_cases (joins m n (put f t)) (linked (placed f ts) m n) h)
 
-placed_linked : (f : Placed) (ts : List FaceSegment) (m n : ℕ) (t : FaceSegment) → Has ts t → joins m n (put f t) ≡ true → linked (placed f ts) m n ≡ true
+placed_linked : (f : Placed) (ts : List FaceSegment) (m n : ℕ) (t : FaceSegment) → Contains ts t → joins m n (put f t) ≡ true → linked (placed f ts) m n ≡ true
 unfolding linked
 placed_linked f [] m n t h j = absurd (has_none t h)
 placed_linked f (u ∷ ts) m n t h j =
@@ -66,12 +66,12 @@ placed_linked f (u ∷ ts) m n t h j =
 
 -- a pair in either order is the same joint
 same_order : (u v u' v' : Place) → u ≡ u' → v ≡ v' → SameJoint (u ∷ v ∷ []) (u' ∷ v' ∷ [])
-same_order u v u' v' e f x = let q = ap₂ (λ a b. a ∷ b ∷ []) e f in (subst (λ j. Has j x) q, subst (λ j. Has j x) (sym q))
+same_order u v u' v' e f x = let q = ap₂ (λ a b. a ∷ b ∷ []) e f in (subst (λ j. Contains j x) q, subst (λ j. Contains j x) (sym q))
 
 flipped : (u v : Place) → SameJoint (u ∷ v ∷ []) (v ∷ u ∷ [])
 flipped u v x = (turn u v, turn v u)
   where
-    turn : (a b : Place) → Has (a ∷ b ∷ []) x → Has (b ∷ a ∷ []) x
+    turn : (a b : Place) → Contains (a ∷ b ∷ []) x → Contains (b ∷ a ∷ []) x
     turn a b h = ⊎_elim (λ e. has_there b (a ∷ []) x (has_here a [] x e)) (λ e. has_here b (a ∷ []) x e) (pair_cases a b x h)
 
 module _ (b : Block) (l : Level) (c : Point) where
@@ -83,7 +83,7 @@ module _ (b : Block) (l : Level) (c : Point) where
   face_cut f s k m n h =
       let u = linked_placed f (on_face face_segments (heights b l c) f) m n h in
       let t = u.0 in
-      let in_side = subst (λ ts. Has ts t) (k.segments b l) u.1 in (
+      let in_side = subst (λ ts. Contains ts t) (k.segments b l) u.1 in (
         joint_of s t,
         has_map (joint_of s) (at_heights face_segments b l s) t in_side,
         ⊎_elim
@@ -97,7 +97,7 @@ module _ (b : Block) (l : Level) (c : Point) where
   cut_face f s k m n lm ln h =
       let u = map_has (joint_of s) (at_heights face_segments b l s) h.0 h.1 in
       let t = u.0 in
-      let in_face = subst (λ ts. Has ts t) (sym (k.segments b l)) u.1 in
+      let in_face = subst (λ ts. Contains ts t) (sym (k.segments b l)) u.1 in
       let same = subst (λ i. SameJoint i (joint_at m n)) (sym u.2) h.2 in
       let number : (x : FacePoint) (w : ℕ) → w < local_vertices → face_place s x ≡ place_of c w → f.point x ≡ w = λ x w lw e. place_injective c (f.point x) w (k.local x) lw (k.place x ∙ e) in
       placed_linked f (on_face face_segments (heights b l c) f) m n t in_face
@@ -108,7 +108,7 @@ module _ (b : Block) (l : Level) (c : Point) where
 
   -- of all faces
   faces_cut : (fs : List Placed) (ss : List Side) → AllMatch c fs ss → (m n : ℕ) → linked (segments_on_all (heights b l c) fs) m n ≡ true
-      → (s : Side) × Has ss s × CutOf voxel b l s (joint_at m n)
+      → (s : Side) × Contains ss s × CutOf voxel b l s (joint_at m n)
   unfolding linked
   faces_cut [] [] k m n h = absurd (false≢true h)
   faces_cut [] (s ∷ ss) k m n h = absurd k
@@ -118,7 +118,7 @@ module _ (b : Block) (l : Level) (c : Point) where
       (λ r. let u = faces_cut fs ss k.1 m n r in (u.0, has_there s ss u.0 u.1, u.2))
       (linked_append (segments_on (heights b l c) f) (segments_on_all (heights b l c) fs) m n h)
 
-  cut_faces : (fs : List Placed) (ss : List Side) → AllMatch c fs ss → (m n : ℕ) → m < local_vertices → n < local_vertices → (s : Side) → Has ss s → CutOf voxel b l s (joint_at m n)
+  cut_faces : (fs : List Placed) (ss : List Side) → AllMatch c fs ss → (m n : ℕ) → m < local_vertices → n < local_vertices → (s : Side) → Contains ss s → CutOf voxel b l s (joint_at m n)
       → linked (segments_on_all (heights b l c) fs) m n ≡ true
   cut_faces [] [] k m n lm ln s h q = absurd (has_none s h)
   cut_faces [] (t ∷ ss) k m n lm ln s h q = absurd k
@@ -130,15 +130,15 @@ module _ (b : Block) (l : Level) (c : Point) where
       (has_cases t ss s h)
 
   -- every place of a cut is a place of the voxel
-  face_named : (f : Placed) (s : Side) → Matches c f s → (j : Joint) (p : Place) → CutOf voxel b l s j → Has j p → Has (local_places c) p
+  face_named : (f : Placed) (s : Side) → Matches c f s → (j : Joint) (p : Place) → CutOf voxel b l s j → Contains j p → Contains (local_places c) p
   face_named f s k j p h q =
       let u = map_has (joint_of s) (at_heights face_segments b l s) h.0 h.1 in
       let t = u.0 in
-      let in_joint = subst (λ i. Has i p) (sym u.2) ((h.2 p).1 q) in
-      let here : (x : FacePoint) → face_place s x ≡ p → Has (local_places c) p = λ x e. subst (Has (local_places c)) (k.place x ∙ e) (has_get_or (local_places c) (f.point x) (edge X c) (k.local x)) in
+      let in_joint = subst (λ i. Contains i p) (sym u.2) ((h.2 p).1 q) in
+      let here : (x : FacePoint) → face_place s x ≡ p → Contains (local_places c) p = λ x e. subst (Contains (local_places c)) (k.place x ∙ e) (Contains-get_or (local_places c) (f.point x) (edge X c) (k.local x)) in
       ⊎_elim (here t.0) (here t.1) (pair_cases (face_place s t.0) (face_place s t.1) p in_joint)
 
-  faces_named : (fs : List Placed) (ss : List Side) → AllMatch c fs ss → (j : Joint) (p : Place) (s : Side) → Has ss s → CutOf voxel b l s j → Has j p → Has (local_places c) p
+  faces_named : (fs : List Placed) (ss : List Side) → AllMatch c fs ss → (j : Joint) (p : Place) (s : Side) → Contains ss s → CutOf voxel b l s j → Contains j p → Contains (local_places c) p
   faces_named [] [] k j p s h q r = absurd (has_none s h)
   faces_named [] (t ∷ ss) k j p s h q r = absurd k
   faces_named (f ∷ fs) [] k j p s h q r = absurd k
@@ -167,32 +167,33 @@ module _ (b : Block) (l : Level) (c : Point) where
   on_as : (t : Triangle) → Proper t → (m n : ℕ) → m < local_vertices → n < local_vertices → on (joint_at m n) (piece_of c t) ≡ (names_vertex m t && names_vertex n t)
   on_as t p m n lm ln = (λ i. names_as t p m lm i && (names_as t p n ln i && true)) ∙ ap (λ z. names_vertex m t && z) (and-true (names_vertex n t))
 
-  count_as : (ts : List Triangle) → AllByRecursion Proper ts → (m n : ℕ) → m < local_vertices → n < local_vertices → count_by (on (joint_at m n)) (map (piece_of c) ts) ≡ shared ts m n
+  count_as : (ts : List Triangle) → All Proper ts → (m n : ℕ) → m < local_vertices → n < local_vertices → count_by (on (joint_at m n)) (map (piece_of c) ts) ≡ shared ts m n
   unfolding shared
   count_as [] p m n lm ln = refl
   count_as (t ∷ ts) p m n lm ln =
       sum_by-cons (λ q. cond (on (joint_at m n) q) 1 0) (piece_of c t) (map (piece_of c) ts)
-      ∙ ap₂ (λ i k. i + k) (ap (λ z. cond z 1 0) (on_as t p.0 m n lm ln)) (count_as ts p.1 m n lm ln)
+      ∙ ap₂ (λ i k. i + k) (ap (λ z. cond z 1 0) (on_as t (All-head Proper t ts p) m n lm ln)) (count_as ts (All-tail Proper t ts p) m n lm ln)
       ∙ sym (sum_by-cons (λ u. cond (names_vertex m u && names_vertex n u) 1 0) t ts)
 
   -- of any other: none
-  piece_local : (t : Triangle) → Proper t → (p : Place) → Has (piece_of c t) p → Has (local_places c) p
+  piece_local : (t : Triangle) → Proper t → (p : Place) → Contains (piece_of c t) p → Contains (local_places c) p
   piece_local t q p h =
       let l1 : t.1 < local_vertices = let a = q.2 in let d = q.4 in omega arith in
-      let here : (m : ℕ) → m < local_vertices → place_of c m ≡ p → Has (local_places c) p = λ m lm e. subst (Has (local_places c)) e (has_get_or (local_places c) m (edge X c) lm) in
+      let here : (m : ℕ) → m < local_vertices → place_of c m ≡ p → Contains (local_places c) p = λ m lm e. subst (Contains (local_places c)) e (Contains-get_or (local_places c) m (edge X c) lm) in
       ⊎_elim (here t.0 q.3) (⊎_elim (here t.1 l1) (here t.2 q.4))
       (three_cases (place_of c t.0) (place_of c t.1) (place_of c t.2) p h)
 
-  no_names : (t : Triangle) → Proper t → (p : Place) → (Has (local_places c) p → ⊥) → names (piece_of c t) p ≡ false
+  no_names : (t : Triangle) → Proper t → (p : Place) → (Contains (local_places c) p → ⊥) → names (piece_of c t) p ≡ false
   no_names t q p out = ⊎_elim (λ h. absurd (out (piece_local t q p ((names_decides (piece_of c t) p).0 h)))) (λ h. h) (cases_Bool (names (piece_of c t) p))
 
-  count_none : (ts : List Triangle) → AllByRecursion Proper ts → (u v : Place) → (Has (local_places c) u → ⊥) ⊎ (Has (local_places c) v → ⊥) → count_by (on (u ∷ v ∷ [])) (map (piece_of c) ts) ≡ 0
+  count_none : (ts : List Triangle) → All Proper ts → (u v : Place) → (Contains (local_places c) u → ⊥) ⊎ (Contains (local_places c) v → ⊥) → count_by (on (u ∷ v ∷ [])) (map (piece_of c) ts) ≡ 0
   count_none [] p u v out = refl
   count_none (t ∷ ts) p u v out =
+      let here = All-head Proper t ts p in
       let off : on (u ∷ v ∷ []) (piece_of c t) ≡ false = ⊎_elim
-      (λ o. and_left (names (piece_of c t) u) (names (piece_of c t) v && true) (no_names t p.0 u o))
-      (λ o. and_right (names (piece_of c t) u) (names (piece_of c t) v && true) (and_left (names (piece_of c t) v) true (no_names t p.0 v o))) out in
-      omega (arith, sum_by-cons (λ q. cond (on (u ∷ v ∷ []) q) 1 0) (piece_of c t) (map (piece_of c) ts), cond-false {A = ℕ} (on (u ∷ v ∷ []) (piece_of c t)) 1 0 off, count_none ts p.1 u v out)
+      (λ o. and_left (names (piece_of c t) u) (names (piece_of c t) v && true) (no_names t here u o))
+      (λ o. and_right (names (piece_of c t) u) (names (piece_of c t) v && true) (and_left (names (piece_of c t) v) true (no_names t here v o))) out in
+      omega (arith, sum_by-cons (λ q. cond (on (u ∷ v ∷ []) q) 1 0) (piece_of c t) (map (piece_of c) ts), cond-false {A = ℕ} (on (u ∷ v ∷ []) (piece_of c t)) 1 0 off, count_none ts (All-tail Proper t ts p) u v out)
 
   -- ---- the law
   module _ (filled : Filled (segments b l c) (triangles (segments b l c))) where
@@ -204,7 +205,7 @@ module _ (b : Block) (l : Level) (c : Point) where
           λ h. let o = k.1 (cut_faces faces (sides c) (faces_match c) m n lm ln h.0 h.1 h.2) in omega arith,
         )
 
-    parity_other : (u v : Place) → (Has (local_places c) u → ⊥) ⊎ (Has (local_places c) v → ⊥) → Odd (count_by (on (u ∷ v ∷ [])) (pieces b l c)) ↔ CutOfCell voxel b l c (u ∷ v ∷ [])
+    parity_other : (u v : Place) → (Contains (local_places c) u → ⊥) ⊎ (Contains (local_places c) v → ⊥) → Odd (count_by (on (u ∷ v ∷ [])) (pieces b l c)) ↔ CutOfCell voxel b l c (u ∷ v ∷ [])
     parity_other u v out =
         let e = count_none (triangles (segments b l c)) filled.proper u v out in (
           λ h. absurd (omega arith),
@@ -218,9 +219,11 @@ module _ (b : Block) (l : Level) (c : Point) where
         (λ hu. ⊎_elim (λ hv. inside hu hv) (λ o. parity_other u v (inr o)) (has_or_not (local_places c) v))
         (λ o. parity_other u v (inl o)) (has_or_not (local_places c) u)
       where
-        inside : Has (local_places c) u → Has (local_places c) v → Odd (count_by (on (u ∷ v ∷ [])) (pieces b l c)) ↔ CutOfCell voxel b l c (u ∷ v ∷ [])
+        inside : Contains (local_places c) u → Contains (local_places c) v → Odd (count_by (on (u ∷ v ∷ [])) (pieces b l c)) ↔ CutOfCell voxel b l c (u ∷ v ∷ [])
         inside hu hv =
-            let eu = hu.2 (edge X c) in
-            let ev = hv.2 (edge X c) in
+            let at_u = at_from_Contains (local_places c) u hu in
+            let at_v = at_from_Contains (local_places c) v hv in
+            let eu = at_u.2 (edge X c) in
+            let ev = at_v.2 (edge X c) in
             subst (λ (j : Joint). Odd (count_by (on j) (pieces b l c)) ↔ CutOfCell voxel b l c j) (ap₂ (λ x y. x ∷ y ∷ []) eu ev)
-            (parity_local hu.0 hv.0 hu.1 hv.1 (λ e. ne (sym eu ∙ ap (place_of c) e ∙ ev)))
+            (parity_local at_u.0 at_v.0 at_u.1 at_v.1 (λ e. ne (sym eu ∙ ap (place_of c) e ∙ ev)))

@@ -1,7 +1,7 @@
 -- The sides of voxels: each is listed once, belongs to at most two voxels, and is told by any two of its points.
 use Rattle.std.proofs.Common.{◌≡◌, ℕ, ◌+◌, ◌-◌, min, Bool, true, false, cond, eqb, ◌⊎◌, List, ℤ, Some, None, Option, sym, refl, ap, ◌∙◌, subst, ap₂, inl, inr, ⊎_elim, arith}
-use Rattle.std.specs.List.{ContainsAt as Has, AllByRecursion}
-use Rattle.std.proofs.ByRecursion.{all-has}
+use Rattle.std.specs.List.{Contains, AllByRecursion}
+use Rattle.std.proofs.lemmas.List.Elements.{All-contains, All-from_recursion}
 use Rattle.std.proofs.lemmas.Bool.{eq-eqb, ne_eqb, cond-true, cond-false}
 use Rattle.block.specs.Block.{Block}
 use Rattle.block.specs.declared.lattice.Point.{Point}
@@ -43,8 +43,8 @@ sides_once c = numbered_distinct (number_in c) 0 (sides c) (sides_numbered c)
 abbrev Beside : Point → Side → Type 0
 Beside c s = (s.point ≡ c) ⊎ (s.point ≡ next s.axis c)
 
-beside : (c : Point) (s : Side) → Has (sides c) s → Beside c s
-beside c s h = all-has (Beside c) (sides c) s (inl refl, (inr refl, (inl refl, (inr refl, (inl refl, (inr refl, tt)))))) h
+beside : (c : Point) (s : Side) → Contains (sides c) s → Beside c s
+beside c s h = All-contains (Beside c) (sides c) s (All-from_recursion (Beside c) (sides c) (inl refl, (inr refl, (inl refl, (inr refl, (inl refl, (inr refl, tt))))))) h
 
 one_less : (m n : ℕ) → m + 1 ≡ n + 1 → m ≡ n
 one_less m n e = omega arith
@@ -54,7 +54,7 @@ next_same X p q e = λ i. record { x = one_less p.x q.x (ap (λ (r : Point). r.x
 next_same Y p q e = λ i. record { x = (e i).x; y = one_less p.y q.y (ap (λ (r : Point). r.y) e) i; z = (e i).z }
 next_same Z p q e = λ i. record { x = (e i).x; y = (e i).y; z = one_less p.z q.z (ap (λ (r : Point). r.z) e) i }
 
-pub two_voxels : (c d e : Point) (s : Side) → Has (sides c) s → Has (sides d) s → Has (sides e) s → (c ≡ d) ⊎ (d ≡ e) ⊎ (c ≡ e)
+pub two_voxels : (c d e : Point) (s : Side) → Contains (sides c) s → Contains (sides d) s → Contains (sides e) s → (c ≡ d) ⊎ (d ≡ e) ⊎ (c ≡ e)
 two_voxels c d e s hc hd he = go (beside c s hc) (beside d s hd) (beside e s he)
   where
     low : (p q : Point) → s.point ≡ p → s.point ≡ q → p ≡ q
@@ -210,8 +210,11 @@ restored_back s j1C = made _ s refl (lower_next (first_axis s.axis) s.point)
 restored_back s j2C = made _ s refl (lower_same s.point)
 restored_back s j3C = made _ s refl (lower_next (second_axis s.axis) s.point)
 
+abbrev IsJoined : FaceSegment → Type 0
+IsJoined t = Joined t.0 t.1
+
 abbrev AllJoined : List FaceSegment → Type 0
-AllJoined ts = AllByRecursion (λ (t : FaceSegment). Joined t.0 t.1) ts
+AllJoined ts = AllByRecursion IsJoined ts
 
 all_joined : (p0 p1 p2 p3 : Bool) (d : Sign) → AllJoined (join (crossed_edges p0 p1 p2 p3) d)
 all_joined true true true true minus = (j02, (j13, tt))
@@ -239,13 +242,14 @@ segments_joined g00 g10 g01 g11 =
 
 -- a joint that is a cut of two sides
 module _ (b : Block) (l : Level) where
-  joined_at : (s : Side) (t : FaceSegment) → Has (at_heights face_segments b l s) t → Joined t.0 t.1
+  joined_at : (s : Side) (t : FaceSegment) → Contains (at_heights face_segments b l s) t → Joined t.0 t.1
   joined_at s t h =
       let u : Axis = first_axis s.axis in
       let v : Axis = second_axis s.axis in
       let p : Point = s.point in
-      all-has (λ (u : FaceSegment). Joined u.0 u.1) (at_heights face_segments b l s) t
-      (segments_joined (corner_height b l p) (corner_height b l (next u p)) (corner_height b l (next v p)) (corner_height b l (next u (next v p)))) h
+      All-contains IsJoined (at_heights face_segments b l s) t
+      (All-from_recursion IsJoined (at_heights face_segments b l s)
+      (segments_joined (corner_height b l p) (corner_height b l (next u p)) (corner_height b l (next v p)) (corner_height b l (next u (next v p))))) h
 
   same_side : (s t : Side) (j : Joint) (u v : FaceSegment) → Joined u.0 u.1 → Joined v.0 v.1 → SameJoint (joint_of s u) j → SameJoint (joint_of t v) j → s ≡ t
   same_side s t j u v ju jv m n =

@@ -1,5 +1,5 @@
 -- What a voxel means: its corners, sides and vertices, how its faces are cut, and its triangles.
-use Rattle.std.specs.Prelude.{ℕ, ◌+◌, ◌≤◌, Bool, cond, ◌&&◌, List, [], ◌∷◌, map, length, ℤ, Some, None, Option, nat_lt, slice_index_or}
+use Rattle.std.specs.Prelude.{ℕ, ◌+◌, ◌≤◌, Bool, if◌then◌else◌, ◌&&◌, List, [], ◌∷◌, map, length, ℤ, Some, None, Option, nat_lt, slice_index_or}
 use Rattle.block.specs.Block.{Block}
 use Rattle.block.specs.declared.lattice.Point.{Point}
 use Rattle.block.specs.declared.lattice.Sizes.{Sizes}
@@ -107,13 +107,13 @@ is_axis a along = same_axis (Some a) (Some along)
 
 -- a crossing has an offset along its edge
 abbrev pub edge_offset : Block → Level → Axis → Point → Axis → Offset
-edge_offset b l a p along = cond (is_axis a along) (along_edge (corner_height b l p) (corner_height b l (next a p))) no_offset
+edge_offset b l a p along = if is_axis a along then along_edge (corner_height b l p) (corner_height b l (next a p)) else no_offset
 
 -- a centre has one along each axis of its face
 abbrev pub centre_offset : Block → Level → Axis → Point → Axis → Offset
 centre_offset b l a p along =
-    cond (is_axis (first_axis a) along) (at_heights centre_offsets b l (side a p)).first
-    (cond (is_axis (second_axis a) along) (at_heights centre_offsets b l (side a p)).second no_offset)
+    if is_axis (first_axis a) along then (at_heights centre_offsets b l (side a p)).first
+    else if is_axis (second_axis a) along then (at_heights centre_offsets b l (side a p)).second else no_offset
 
 abbrev pub offset_along : Block → Level → Option Form → Option Axis → Point → Axis → Offset
 offset_along b l (Some Edge) (Some a) p along = edge_offset b l a p along

@@ -1,10 +1,5 @@
-use Rattle.cell.proofs.Heights.{level_limits, times_fits, height_fits, answer_is, answer_small}
+use Rattle.cell.proofs.Heights.{level_limits, height_fits, answer_is, answer_small}
 use Rattle.cell.proofs.level.Level.height_within.Goals as goal
-
-pub overflow_mul-result : goal.overflow_mul-result
-overflow_mul-result c =
-    let level = level_limits c.args.self.now.p c.args.self.now.q c.args.self.now.allowed in
-    times_fits c.args.self.now.p c.args.self.now.q c.args.sample level.0 level.1 c.requires.within
 
 pub overflow_sub-result : goal.overflow_sub-result
 overflow_sub-result c =

@@ -3,7 +3,7 @@ use Rattle.kind.proofs.Reading.{readable}
 use Rattle.pixel_theory.specs.Kind.{pixel}
 use Rattle.pixel_theory.specs.Numbers.{points_in}
 use Rattle.pixel_theory.proofs.Numbering.{vertices_by_cut, pieces_by_cut}
-use Rattle.pixel.proofs.Held.{vertices_held, borders_held}
+use Rattle.pixel.proofs.Held.{vertices_held, numbers_held, borders_held}
 use Rattle.pixel.proofs.shape.PixelKind.read.Goals as goal
 
 pub returns : goal.returns
@@ -19,7 +19,7 @@ returns g c =
         read.0,
         (
           c.vertices.ensures.answer ∙ vertices_held b l at k read.1 (points_in k.cut) ∙ sym (vertices_by_cut b l at r k.cut read.1.cut_is),
-          c.segments.ensures.answer ∙ sym (pieces_by_cut b l at r k.cut read.1.cut_is),
+          numbers_held k.cut ∙ sym (pieces_by_cut b l at r k.cut read.1.cut_is),
           borders_held b l at k read.1,
         ),
       );
