@@ -1,7 +1,7 @@
 -- What a shape holds is what its voxel means.
 use Rattle.std.proofs.Common.{◌≡◌, ℕ, suc, ◌<◌, Bool, cond, List, [], ◌∷◌, map, get_or, ℤ, pos, Some, None, filter, sym, refl, ap, ◌∙◌, ap₂, arith, lit<}
 use Rattle.std.specs.List.{Contains, All}
-use Rattle.std.proofs.lemmas.List.Elements.{All-contains}
+use Rattle.std.proofs.lemmas.List.Elements.{All-contains, All-from_recursion, All-head, All-tail}
 use Rattle.std.proofs.lemmas.Bool.{le-ltb, cond-false}
 use Rattle.block.specs.Block.{Block}
 use Rattle.block.specs.declared.lattice.Point.{Point}
@@ -41,7 +41,7 @@ pub from_off : (hs : List Height) → Off (by_corner hs) → AllOff hs
 from_off hs off = le-ltb _ 8 (let e = lowest_none (λ j. on_level (by_corner hs j)) 8 off in omega arith)
 
 below : All (λ w. w < local_vertices) local_order
-below = (lit< tt, (lit< tt, (lit< tt, (lit< tt, (lit< tt, (lit< tt, (lit< tt, (lit< tt, (lit< tt, (lit< tt, (lit< tt, (lit< tt, (lit< tt, (lit< tt, (lit< tt, (lit< tt, (lit< tt, (lit< tt, tt))))))))))))))))))
+below = All-from_recursion (λ w. w < local_vertices) local_order (lit< tt, (lit< tt, (lit< tt, (lit< tt, (lit< tt, (lit< tt, (lit< tt, (lit< tt, (lit< tt, (lit< tt, (lit< tt, (lit< tt, (lit< tt, (lit< tt, (lit< tt, (lit< tt, (lit< tt, (lit< tt, tt))))))))))))))))))
 
 vertex_below : (p : ℕ → Bool) (v : ℕ) → Contains (filter p local_order) v → v < local_vertices
 vertex_below p v h = All-contains (λ w. w < local_vertices) local_order v below (kept_has p local_order v h).0
@@ -83,9 +83,9 @@ module _ (b : Block) (l : Level) (at : Point) (hs : List Height) (e : HeightsAt 
       → map (map (number (map (λ v. vertex_at b l (place_of at v)) vs))) (map (piece_of at) ts) ≡ map (numbered vs) ts
   numbers_are vs [] low p = refl
   numbers_are vs (t ∷ ts) low p =
-      let q = p.0 in
+      let q = All-head Proper t ts p in
       let lt1 : t.1 < local_vertices = omega (arith, q.2, q.4) in
-      λ i. (number_rank vs t.0 low q.3 i ∷ number_rank vs t.1 low lt1 i ∷ number_rank vs t.2 low q.4 i ∷ []) ∷ numbers_are vs ts low p.1 i
+      λ i. (number_rank vs t.0 low q.3 i ∷ number_rank vs t.1 low lt1 i ∷ number_rank vs t.2 low q.4 i ∷ []) ∷ numbers_are vs ts low (All-tail Proper t ts p) i
 
   pub pieces_held : All Proper (triangles (segments b l at))
       → map (numbered (vertices_on (voxel_segments (by_corner hs)))) (triangles (voxel_segments (by_corner hs))) ≡ map (map (number (voxel.vertices b l at))) (voxel.pieces b l at)
