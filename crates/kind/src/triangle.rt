@@ -4,7 +4,7 @@ ghost use Rattle.std.specs.Prelude.{List, [], ◌∷◌, refl};
 use crate::piece::Piece;
 
 // A triangle names its three vertices by number, counted from 1.
-#[derive(Clone, Copy, PartialEq, Eq, Debug)]
+#[derive(Clone, Copy, PartialEq, Eq, Debug, Default)]
 pub struct Triangle {
     pub first: usize,
     pub second: usize,

@@ -98,12 +98,7 @@ fn number_triangles(triangles: &[LocalTriangle], local: &[u8]) -> [Triangle; MOS
     requires few { length triangles.now ≤ most_triangles }
     ensures answer { map (λ t. t.first ∷ t.second ∷ t.third ∷ []) (take (length triangles.now) result) ≡ map (numbered local.now) (map named triangles.now) }
 {
-    let none = Triangle {
-        first: 0,
-        second: 0,
-        third: 0,
-    };
-    let mut all = [none; MOST_TRIANGLES];
+    let mut all = [Triangle::default(); MOST_TRIANGLES];
     for (i, t) in triangles.iter().enumerate() {
         all[i] = number_triangle(*t, local);
     }
