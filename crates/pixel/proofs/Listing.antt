@@ -22,16 +22,16 @@ taken f n i h =
 past : {X : Type 0} (x : X) (n i : ℕ) → cond (ltb i n) (Some x) None ≡ None → n ≤ i
 past x n i h = grind (arith, nat_tests)
 
+count_all : (n : Sizes) → length (all_pixels n) ≡ pixel_count n
+count_all n = length-map-range_with_len (pixel_numbered n) 0 (pixel_count n)
+
 pub first_left : (n : Sizes) (i : ℕ) (at : Point) → pixel_at n i ≡ Some at → drop i (all_pixels n) ≡ at ∷ drop (i + 1) (all_pixels n)
 first_left n i at h =
     let (below, is) = cond_some _ _ _ h in
     taken (pixel_numbered n) (pixel_count n) i (ltb-true _ _ below) ∙ (λ j. is j ∷ drop (i + 1) (all_pixels n))
 
 pub none_left : (n : Sizes) (i : ℕ) → pixel_at n i ≡ None → drop i (all_pixels n) ≡ []
-none_left n i h = drop_all i (all_pixels n) (subst (λ m. m ≤ i) (sym (length-map-range_with_len (pixel_numbered n) 0 (pixel_count n))) (past _ _ _ h))
-
-count_all : (n : Sizes) → length (all_pixels n) ≡ pixel_count n
-count_all n = length-map-range_with_len (pixel_numbered n) 0 (pixel_count n)
+none_left n i h = drop_all i (all_pixels n) (subst (λ m. m ≤ i) (sym (count_all n)) (past _ _ _ h))
 
 -- an iterator over all pixels that has given some gives the next, and ends after the last
 module _ (n : Sizes) (s : Iter) (start : pixels_left s ≡ all_pixels n) (given : List Point) (t u : Iter) (by : Yields (YieldsFirst pixels_left) s given t) where

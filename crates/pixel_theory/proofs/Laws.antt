@@ -1,7 +1,7 @@
 -- Pixels keep every law of kinds.
-use Rattle.std.proofs.Common.{◌≡◌, ℕ, ◌+◌, ◌<◌, Bool, true, false, cond, ◌||◌, ◌⊎◌, ◌↔◌, List, [], ◌∷◌, map, ℤ, Some, None, Decides, count_by, filter, unwrap_or, sym, refl, ap, ◌∙◌, subst, ap₂, inl, inr, ⊎_elim, arith}
+use Rattle.std.proofs.Common.{◌≡◌, ℕ, ◌+◌, ◌<◌, Bool, true, false, cond, ◌&&◌, ◌||◌, ◌⊎◌, ◌↔◌, List, [], ◌∷◌, map, ℤ, Some, None, Decides, count_by, filter, get_or, unwrap_or, sym, refl, ap, ◌∙◌, subst, ap₂, inl, inr, ⊎_elim, arith}
 use Rattle.std.specs.List.{Contains}
-use Rattle.std.proofs.lemmas.Bool.{false≢true, and_parts, and_from}
+use Rattle.std.proofs.lemmas.Bool.{false≢true, and_parts, and_from, eq-eqb, eqb-true}
 use Rattle.std.proofs.lemmas.Bool.Decides.{Decides-by_or}
 use Rattle.std.proofs.Math.Bool.{and-true}
 use Rattle.std.proofs.lemmas.List.Elements.{Decides-contains}
@@ -10,7 +10,7 @@ use Rattle.block.specs.declared.lattice.Point.{Point}
 use Rattle.cell.specs.Corner.{corner_height}
 use Rattle.cell.specs.Crossing.{opposite, along_edge}
 use Rattle.cell.specs.Face.{FaceSegment, face_segments, centre_offsets, Δ}
-use Rattle.cell.specs.Interpolant.{same, one_if, degree}
+use Rattle.cell.specs.Interpolant.{same, number, one_if, degree}
 use Rattle.cell.specs.Level.{Sign, sign}
 use Rattle.cell.specs.Vertex.{no_offset, on_edge, in_face}
 use Rattle.cell.specs.declared.face.FacePoint.{FacePoint}
@@ -24,7 +24,7 @@ use Rattle.cell.specs.declared.vertex.Side.{Side}
 use Rattle.cell.specs.declared.vertex.Vertex.{Vertex}
 use Rattle.kind.specs.Meaning.{Laws, Piece, Joint, Readable, Odd, Distinct, names, on, SameJoint, IsJoint, CutOf, CutOfCell, places_of}
 use Rattle.kind.proofs.Counts.{counted, has_counted, count_same, count_map}
-use Rattle.kind.proofs.Members.{has_none, has_here, has_there, has_cases, has_map, map_has, has_kept, kept_has, distinct_map, distinct_from_map, distinct_kept}
+use Rattle.kind.proofs.Members.{has_none, has_here, has_there, has_cases, has_map, map_has, has_kept, kept_has, distinct_map, distinct_from_map, distinct_kept, numbered_distinct}
 use Rattle.kind.proofs.Places.{names_decides}
 use Rattle.pixel_theory.specs.Kind.{pixel, face_points, present, pixel_sides, upper, edge_place, segment_places, place_of}
 use Rattle.pixel_theory.specs.Pixel.{at_pixel, vertex_of, next_x, next_y}
@@ -32,39 +32,18 @@ use Rattle.pixel_theory.proofs.Faces.{touches, count_touches}
 use Rattle.pixel_theory.proofs.Points.{same_points, apart, reads_off}
 
 -- ---- points of a face
-pub same_is : (x y : FacePoint) → same x y ≡ true → x ≡ y
-same_is P0 P0 h = refl
-same_is P0 P1 h = absurd (false≢true h)
-same_is P0 P2 h = absurd (false≢true h)
-same_is P0 P3 h = absurd (false≢true h)
-same_is P0 C h = absurd (false≢true h)
-same_is P1 P0 h = absurd (false≢true h)
-same_is P1 P1 h = refl
-same_is P1 P2 h = absurd (false≢true h)
-same_is P1 P3 h = absurd (false≢true h)
-same_is P1 C h = absurd (false≢true h)
-same_is P2 P0 h = absurd (false≢true h)
-same_is P2 P1 h = absurd (false≢true h)
-same_is P2 P2 h = refl
-same_is P2 P3 h = absurd (false≢true h)
-same_is P2 C h = absurd (false≢true h)
-same_is P3 P0 h = absurd (false≢true h)
-same_is P3 P1 h = absurd (false≢true h)
-same_is P3 P2 h = absurd (false≢true h)
-same_is P3 P3 h = refl
-same_is P3 C h = absurd (false≢true h)
-same_is C P0 h = absurd (false≢true h)
-same_is C P1 h = absurd (false≢true h)
-same_is C P2 h = absurd (false≢true h)
-same_is C P3 h = absurd (false≢true h)
-same_is C C h = refl
+numbered : (x : FacePoint) → get_or face_points (number x) C ≡ x
+numbered P0 = refl
+numbered P1 = refl
+numbered P2 = refl
+numbered P3 = refl
+numbered C = refl
 
-same_self : (x : FacePoint) → same x x ≡ true
-same_self P0 = refl
-same_self P1 = refl
-same_self P2 = refl
-same_self P3 = refl
-same_self C = refl
+pub same_is : (x y : FacePoint) → same x y ≡ true → x ≡ y
+same_is x y h = sym (numbered x) ∙ ap (λ n. get_or face_points n C) (eqb-true _ _ h) ∙ numbered y
+
+pub same_self : (x : FacePoint) → same x x ≡ true
+same_self x = eq-eqb (number x) (number x) refl
 
 place_inj : (c : Point) (x y : FacePoint) → place_of c x ≡ place_of c y → x ≡ y
 place_inj c x y e = same_is x y (apart c x y e)
@@ -87,19 +66,7 @@ every_point P3 = (among_decides face_points P3).0 refl
 every_point C = (among_decides face_points C).0 refl
 
 points_distinct : Distinct face_points
-points_distinct = (
-  λ h. false≢true ((among_decides (P1 ∷ P2 ∷ P3 ∷ C ∷ []) P0).1 h),
-  (
-    λ h. false≢true ((among_decides (P2 ∷ P3 ∷ C ∷ []) P1).1 h),
-    (
-      λ h. false≢true ((among_decides (P3 ∷ C ∷ []) P2).1 h),
-      (
-        λ h. false≢true ((among_decides (C ∷ []) P3).1 h),
-        (λ h. false≢true ((among_decides [] C).1 h), tt),
-      ),
-    ),
-  ),
-)
+points_distinct = numbered_distinct number 0 face_points (refl, (refl, (refl, (refl, (refl, tt)))))
 
 -- ---- a point is a vertex exactly where it lies on a segment
 positive : (t : Bool) → t ≡ true → 0 < one_if t
@@ -396,19 +363,7 @@ pub pixel_two_cells : (c d e : Point) (s : Side) → Contains (pixel_sides c) s 
 pixel_two_cells c d e s h k g = two_of_three s.axis s.point c d e (starts c s h) (starts d s k) (starts e s g)
 
 pub pixel_sides_once : (c : Point) → Distinct (pixel_sides c)
-pixel_sides_once c = distinct_from_map edge_place (pixel_sides c) (distinct_map (place_of c) (place_inj c) (P0 ∷ P1 ∷ P2 ∷ P3 ∷ []) four_distinct)
-  where
-    four_distinct : Distinct (P0 ∷ P1 ∷ P2 ∷ P3 ∷ [])
-    four_distinct = (
-      λ h. false≢true ((among_decides (P1 ∷ P2 ∷ P3 ∷ []) P0).1 h),
-      (
-        λ h. false≢true ((among_decides (P2 ∷ P3 ∷ []) P1).1 h),
-        (
-          λ h. false≢true ((among_decides (P3 ∷ []) P2).1 h),
-          (λ h. false≢true ((among_decides [] P3).1 h), tt),
-        ),
-      ),
-    )
+pixel_sides_once c = distinct_from_map edge_place (pixel_sides c) (distinct_map (place_of c) (place_inj c) (P0 ∷ P1 ∷ P2 ∷ P3 ∷ []) (numbered_distinct number 0 (P0 ∷ P1 ∷ P2 ∷ P3 ∷ []) (refl, (refl, (refl, (refl, tt))))))
 
 -- ---- a vertex by its place alone
 abbrev vertex_at : Block → Level → Place → Vertex

@@ -20,7 +20,7 @@ use Rattle.pixel_theory.specs.Kind.{pixel, face_points, present, segment_places,
 use Rattle.pixel_theory.specs.Numbers.{points_in, numbers_in}
 use Rattle.pixel_theory.specs.Pixel.{at_pixel, vertex_of, next_x, next_y}
 use Rattle.pixel_theory.proofs.Faces.{computed, for_all}
-use Rattle.pixel_theory.proofs.Laws.{same_is, place_is}
+use Rattle.pixel_theory.proofs.Laws.{same_is, same_self, place_is}
 use Rattle.pixel_theory.proofs.Points.{same_points, reads_off}
 
 -- the points that segments of a face have for vertices, in order, and the numbers of the segments' ends
@@ -100,13 +100,6 @@ cut_points (Single a b) = refl
 cut_points Rising = refl
 cut_points Falling = refl
 cut_points Star = refl
-
-same_self : (x : FacePoint) → same x x ≡ true
-same_self P0 = refl
-same_self P1 = refl
-same_self P2 = refl
-same_self P3 = refl
-same_self C = refl
 
 differ : (t : Bool) → cond t false true ≡ true → t ≡ false
 differ true h = absurd (false≢true h)

@@ -5,7 +5,7 @@ use Rattle.pixel.proofs.pixels.IterIterator.next.Goals as goal
 pub returns-in_err-at-clause-steps : goal.returns-in_err-at-clause-steps
 returns-in_err-at-clause-steps c =
     let e = none_left _ _ (sym c.in_err-at.ensures.answer) in
-    grind (arith)
+    grind arith
 
 pub returns-clause-steps : goal.returns-clause-steps
 returns-clause-steps c = first_left _ _ _ (sym c.in_ok-at.ensures.answer)
