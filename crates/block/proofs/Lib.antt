@@ -1,4 +1,3 @@
 pub mod Fields
 pub mod Storage
 pub mod Windows
-pub mod Steps

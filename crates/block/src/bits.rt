@@ -29,6 +29,7 @@ fn word(bytes: &[u8], at: usize) -> u64
     requires { at < 2 ^ 62 }
     ensures answer { result ≡ number_of (five bytes.now at) }
 {
+    // A loop, since `u64::from_be_bytes` of the five was slower by half.
     let mut w = 0;
     for i in 0..5 {
         w = w * 256 + u64::from(byte(bytes, at + i));

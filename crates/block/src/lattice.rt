@@ -24,7 +24,7 @@ impl Point {
     }
 }
 
-// How many lattice points there are along each axis.
+// How many lattice points there are along each axis. A type beside `Point`, so that one is not taken for the other.
 #[derive(Clone, Copy, PartialEq, Eq, Debug)]
 pub struct Sizes {
     pub x: u32,

@@ -5,7 +5,7 @@ ghost use Rattle.block.specs.Block.{lowest, highest};
 
 use crate::bits::{bits, cut_out};
 use crate::extent::Extent;
-use crate::fault::{Cause, Fault};
+use crate::fault::Fault;
 use crate::lattice::{Point, Sizes};
 use crate::refusal::Refusal;
 use crate::source::Source;
@@ -51,9 +51,7 @@ impl Source for Packed<'_> {
     }
 
     fn sample(&self, p: Point) -> Result<i32, Fault> {
-        if !self.extent.contains(p) {
-            return Err(Fault::new(Cause::Outside, p));
-        }
+        self.extent.check(p)?;
         Ok(read(self.samples, self.width, self.extent.index(p)))
     }
 }

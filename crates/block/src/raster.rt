@@ -43,9 +43,7 @@ impl Source for Raster<'_> {
     }
 
     fn sample(&self, p: Point) -> Result<i32, Fault> {
-        if !self.extent.contains(p) {
-            return Err(Fault::new(Cause::Outside, p));
-        }
+        self.extent.check(p)?;
         let v = self.samples[self.extent.index(p)];
         if v == i16::MIN {
             return Err(Fault::new(Cause::Missing, p));

@@ -3,7 +3,7 @@ ghost use Rattle.std.specs.Prelude.{List, [], ◌∷◌, refl};
 
 use crate::piece::Piece;
 
-// A triangle names its three vertices by number, counted from 1.
+// A triangle names its three vertices by number, counted from 1. Fields, as a segment has, and no array: each has a name of its own.
 #[derive(Clone, Copy, PartialEq, Eq, Debug, Default)]
 pub struct Triangle {
     pub first: usize,
