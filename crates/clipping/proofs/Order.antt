@@ -41,8 +41,9 @@ kept_same p q [] e = refl
 kept_same p q (v ∷ vs) e =
     (λ i. cond (e v (has_here v vs v refl) i) (v ∷ kept_same p q vs (λ w h. e w (has_there v vs w h)) i) (kept_same p q vs (λ w h. e w (has_there v vs w h)) i))
 
+-- the order lists local vertices
+pub local_below : All (λ w. w < local_vertices) local_order
+local_below = All-from_recursion (λ w. w < local_vertices) local_order (lit< tt, (lit< tt, (lit< tt, (lit< tt, (lit< tt, (lit< tt, (lit< tt, (lit< tt, (lit< tt, (lit< tt, (lit< tt, (lit< tt, (lit< tt, (lit< tt, (lit< tt, (lit< tt, (lit< tt, (lit< tt, tt))))))))))))))))))
+
 pub order_same : (p q : ℕ → Bool) → ((v : ℕ) → v < local_vertices → p v ≡ q v) → filter p local_order ≡ filter q local_order
-order_same p q e = kept_same p q local_order (λ v h. e v (All-contains (λ w. w < local_vertices) local_order v below h))
-  where
-    below : All (λ w. w < local_vertices) local_order
-    below = All-from_recursion (λ w. w < local_vertices) local_order (lit< tt, (lit< tt, (lit< tt, (lit< tt, (lit< tt, (lit< tt, (lit< tt, (lit< tt, (lit< tt, (lit< tt, (lit< tt, (lit< tt, (lit< tt, (lit< tt, (lit< tt, (lit< tt, (lit< tt, (lit< tt, tt))))))))))))))))))
+order_same p q e = kept_same p q local_order (λ v h. e v (All-contains (λ w. w < local_vertices) local_order v local_below h))

@@ -1,7 +1,7 @@
 -- What a shape holds is what its voxel means.
-use Rattle.std.proofs.Common.{◌≡◌, ℕ, suc, ◌<◌, Bool, cond, List, [], ◌∷◌, map, get_or, ℤ, pos, Some, None, filter, sym, refl, ap, ◌∙◌, ap₂, arith, lit<}
+use Rattle.std.proofs.Common.{◌≡◌, ℕ, suc, ◌<◌, Bool, cond, List, [], ◌∷◌, map, get_or, ℤ, pos, Some, None, filter, sym, refl, ap, ◌∙◌, ap₂, arith}
 use Rattle.std.specs.List.{Contains, All}
-use Rattle.std.proofs.lemmas.List.Elements.{All-contains, All-from_recursion, All-head, All-tail}
+use Rattle.std.proofs.lemmas.List.Elements.{All-contains, All-head, All-tail}
 use Rattle.std.proofs.lemmas.Bool.{le-ltb, cond-false}
 use Rattle.block.specs.Block.{Block}
 use Rattle.block.specs.declared.lattice.Point.{Point}
@@ -15,6 +15,7 @@ use Rattle.cell.specs.declared.vertex.Side.{Side}
 use Rattle.clipping.specs.Clip.{Triangle, is_on, vertices_on, triangles}
 use Rattle.clipping.specs.Faces.{Off, Placed, local_vertices, local_order, across_x, across_y, across_z, faces, on_face, voxel_segments}
 use Rattle.clipping.specs.Laws.{Proper}
+use Rattle.clipping.proofs.Order.{local_below}
 use Rattle.clipping.proofs.Sets.{lowest_none}
 use Rattle.clipping.proofs.Shells.{shells}
 use Rattle.kind.specs.Meaning.{cell_declined}
@@ -40,11 +41,8 @@ map_same f g (x ∷ xs) e = ap₂ (λ y ys. y ∷ ys) (e x (has_here x xs x refl
 pub from_off : (hs : List Height) → Off (by_corner hs) → AllOff hs
 from_off hs off = le-ltb _ 8 (let e = lowest_none (λ j. on_level (by_corner hs j)) 8 off in omega arith)
 
-below : All (λ w. w < local_vertices) local_order
-below = All-from_recursion (λ w. w < local_vertices) local_order (lit< tt, (lit< tt, (lit< tt, (lit< tt, (lit< tt, (lit< tt, (lit< tt, (lit< tt, (lit< tt, (lit< tt, (lit< tt, (lit< tt, (lit< tt, (lit< tt, (lit< tt, (lit< tt, (lit< tt, (lit< tt, tt))))))))))))))))))
-
 vertex_below : (p : ℕ → Bool) (v : ℕ) → Contains (filter p local_order) v → v < local_vertices
-vertex_below p v h = All-contains (λ w. w < local_vertices) local_order v below (kept_has p local_order v h).0
+vertex_below p v h = All-contains (λ w. w < local_vertices) local_order v local_below (kept_has p local_order v h).0
 
 -- a local vertex stands at its place
 pub place_local : (c : Point) (g : ℕ → ℤ) (v : ℕ) → v < local_vertices → (local_vertex c g v).place ≡ place_of c v

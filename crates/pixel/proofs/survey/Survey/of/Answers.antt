@@ -1,9 +1,9 @@
-use Rattle.std.proofs.Common.{◌+◌, ◌≤◌, length, None, sym, ap, ◌∙◌, arith}
+use Rattle.std.proofs.Common.{◌+◌, ◌≤◌, length, None, sym, ap, ◌∙◌, arith, rules}
 use Rattle.std.proofs.lemmas.List.{length_push}
 use Rattle.std.proofs.lemmas.Result.{err_from_is_err_and}
 use Rattle.kind.specs.Meaning.{cell_declined}
 use Rattle.pixel_theory.specs.Kind.{pixel}
-use Rattle.pixel.specs.Pixels.{pixel_count, all_pixels, pixels_left, contours, contours_declined}
+use Rattle.pixel.specs.Pixels.{pixel_count, all_pixels, pixels_left}
 use Rattle.pixel.proofs.Counting.{piece_count, length_more, declined_more, stays}
 use Rattle.pixel.proofs.Listing.{next_given, all_given}
 use Rattle.pixel.proofs.Places.{count_fits}
@@ -50,13 +50,5 @@ returns g c =
     let l = c.args.level in
     let start = ap pixels_left c.into_iter-at-iterator.ensures.into_iter_gives ∙ c.iter-at-items.ensures.answer ∙ ap all_pixels c.of-pixels.ensures.answer in
     let all = all_given b.sizes _ start c.loop-at.yielded _ c.next.new.self c.loop-at.yielded_by _ c.in-None.is c.next.ensures.steps in
-    record {
-      answer = (
-        ap (contours_declined b l) (sym all) ∙ c.loop-at.invariant.0,
-        record {
-          planes = ap (λ n. n.z) c.sizes.ensures.answer;
-          pixels = c.count-2.ensures.answer ∙ ap pixel_count c.of-pixels.ensures.answer;
-          segments = c.loop-at.invariant.1 ∙ ap (λ k. length (contours b l k)) all;
-        },
-      );
-    }
+    let (none, segments, _) = rw all at c.loop-at.invariant in
+    record { answer = (none, record { planes = search rules; pixels = search rules; segments = segments }) }
