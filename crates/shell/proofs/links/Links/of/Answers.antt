@@ -4,9 +4,6 @@ use Rattle.shell.specs.Corners.{by_corner}
 use Rattle.shell.proofs.Faces.{face_entered}
 use Rattle.shell.proofs.links.Links.of.Goals as goal
 
-pub loop-face-init : goal.loop-face-init
-loop-face-init c = record { table = record { placed = refl }; so_far = refl }
-
 pub loop-face-preserved : goal.loop-face-preserved
 loop-face-preserved c = record {
   table = c.loop-face.invariant.table;

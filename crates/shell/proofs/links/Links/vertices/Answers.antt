@@ -24,10 +24,3 @@ loop-v-preserved c = elim c.if-mask-gt0.branch [
     c.if-mask-gt0.array_long,
   )
 ]
-
-pub returns : goal.returns
-returns c =
-    let all : local_vertices ≤ c.loop-v.v = omega arith in record {
-      done = c.loop-v.invariant.0 ∙ ap (filter (λ v. ltb 0 (ones (get_or c.args.self.now.masks v 0)))) (take_all c.loop-v.v local_order all);
-      few = omega (arith, c.loop-v.invariant.1);
-    }
