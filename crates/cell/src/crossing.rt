@@ -6,7 +6,7 @@ ghost use Rattle.cell.specs.Level.{sign};
 use crate::level::Height;
 
 // How far a point lies along an edge from its lower end, as a fraction of the edge that is not reduced.
-#[derive(Clone, Copy, PartialEq, Eq, Debug)]
+#[derive(Clone, Copy, PartialEq, Eq, Debug, Default)]
 pub struct Offset {
     pub numerator: u32,
     pub denominator: u32,

@@ -57,6 +57,7 @@ pub trait Kind {
         ensures answer { result ≡ corner_at meaning sizes at n };
 
     // Reads each corner of a cell once, in order; the first that answers a fault or meets the level decides.
+    // Source, level and position stay apart: a ledger keeps its level and is handed a source with each take.
     fn read<S: Source>(&self, source: &S, level: Level, at: Point) -> Result<Self::Shape, Refusal>
         ensures answer { Outcome (cell_declined meaning (S.Source.block source.now) level at) (λ s.
             (Self.Shape.Shape.points s ≡ meaning.vertices (S.Source.block source.now) level at)

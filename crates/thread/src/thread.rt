@@ -60,11 +60,7 @@ impl Shape<Segment> for Bead {
 fn tie(point: Point) -> Vertex
     ensures answer { result ≡ knot point }
 {
-    let none = Offset {
-        numerator: 0,
-        denominator: 0,
-    };
-    Vertex::in_face(Axis::X, point, none, none)
+    Vertex::in_face(Axis::X, point, Offset::default(), Offset::default())
 }
 
 pub fn is_bead(sizes: Sizes, at: Point) -> bool

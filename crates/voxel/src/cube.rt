@@ -125,7 +125,7 @@ impl Cube {
         Vertex::on_edge(axis, self.corner(low), edge.offset())
     }
 
-    // The centre of the face at a place; past the last, that of the last.
+    // The centre of the face at a place; past the last, that of the last, since `vertex` answers for any number.
     fn centre(&self, n: usize) -> Vertex
         ensures answer { result ≡ centre_at self.now.at (by_corner self.now.corners.heights) n }
     {

@@ -115,7 +115,7 @@ fn number_triangle(t: LocalTriangle, local: &[u8]) -> Triangle
     }
 }
 
-// The number of a local vertex among others, counted from 1; one more than there are where it is not among them.
+// The number of a local vertex among others, counted from 1; one more than there are where it is not among them, which a caller could only unwrap.
 fn number_of(vertices: &[u8], v: u8) -> usize
     ensures answer { result ≡ rank vertices.now v }
 {
