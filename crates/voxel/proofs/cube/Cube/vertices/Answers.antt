@@ -1,5 +1,5 @@
-use Rattle.std.proofs.Common.{◌≡◌, [], ◌∷◌, ◌++◌, map, length, get_or, take, sym, ap, ◌∙◌, ap₂, arith, length-set, rules}
-use Rattle.std.proofs.lemmas.List.{take_more_set, take_all, map_more}
+use Rattle.std.proofs.Common.{◌≡◌, [], ◌∷◌, ◌++◌, get_or, sym, ap, ◌∙◌, ap₂, arith, length-set, rules}
+use Rattle.std.proofs.lemmas.List.{take_more_set, map_more}
 use Rattle.voxel.specs.Local.{local_vertex}
 use Rattle.shell.specs.Corners.{by_corner}
 use Rattle.voxel.proofs.cube.Cube.vertices.Goals as goal
@@ -17,10 +17,3 @@ loop-i-preserved c =
           ∙ ap₂ (λ a x. a ++ x ∷ []) c.loop-i.invariant.1 (c.vertex.ensures.answer ∙ ap f number)
           ∙ sym (map_more f ys i 0 c.loop-i-test.true),
     )
-
-pub returns : goal.returns
-returns c =
-    let f = local_vertex c.args.self.now.at (by_corner c.args.self.now.corners.heights) in
-    let ys = c.args.local.now in
-    let all : c.loop-i.i ≡ length ys = omega (arith, c.loop-i-test.false, c.loop-i.auto.i-end) in
-    record { answer = ap (λ n. take n c.loop-i.vertices) (sym all) ∙ c.loop-i.invariant.1 ∙ ap (map f) (take_all c.loop-i.i ys c.loop-i-test.false) }
