@@ -1,4 +1,4 @@
-use Rattle.std.proofs.Common.{refl, arith}
+use Rattle.std.proofs.Common.{arith}
 use Rattle.cell.specs.Cuts.{segments_in}
 use Rattle.shell.specs.Corners.{by_corner}
 use Rattle.shell.proofs.Faces.{face_entered}

@@ -1,8 +1,6 @@
-use Rattle.std.proofs.Common.{◌≤◌, ltb, get_or, take, filter, ap, ◌∙◌, ap₂, arith}
+use Rattle.std.proofs.Common.{ltb, get_or, take, ◌∙◌, ap₂, arith}
 use lib.Count.{ones}
-use Rattle.std.proofs.lemmas.List.{take_all}
 use Rattle.std.proofs.lemmas.Bool.{lt-ltb, le-ltb}
-use Rattle.clipping.specs.Faces.{local_vertices, local_order}
 use Rattle.clipping.proofs.Order.{gathered, passed}
 use Rattle.shell.proofs.links.Links.vertices.Goals as goal
 use Rattle.shell.proofs.links.Links.vertices.Goals.{then-mask-gt0, else-mask-gt0}
