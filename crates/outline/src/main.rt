@@ -36,6 +36,7 @@ impl From<io::Error> for Stop {
 }
 
 fn main(rt: HostRuntime) -> io::Result<()> {
+    // An array, as nothing here is on the heap.
     let mut buffer = [0u8; ROOM];
     let mut input = rt.stdin().take(ROOM as u64);
     // No clause of `copy` bounds its count.
