@@ -25,6 +25,7 @@ impl<'a> Packed<'a> {
     pub fn new(bytes: &'a [u8]) -> Result<Packed<'a>, Refusal>
         ensures answer { Outcome (packed_declined bytes.now) (λ s. packed_told s ≡ block_of_bytes bytes.now) result }
     {
+        // Each byte of the header by name, as the format has them.
         let [b0, b1, b2, b3, b4, samples @ ..] = bytes else {
             return Err(Refusal::Length);
         };

@@ -20,7 +20,7 @@ pub enum Form {
     Face,
 }
 
-// What tells one vertex from another: its form, the axis of the edge or the normal axis of the face, and the lowest lattice point.
+// What tells one vertex from another: its form, the axis of the edge or the normal axis of the face, and the lowest lattice point. A blank slot has neither form nor axis.
 #[derive(Clone, Copy, PartialEq, Eq, Debug)]
 pub struct Place {
     pub form: Option<Form>,
@@ -36,12 +36,6 @@ pub struct Vertex {
     pub y: Offset,
     pub z: Offset,
 }
-
-// What an axis without an offset has.
-const NONE: Offset = Offset {
-    numerator: 0,
-    denominator: 0,
-};
 
 impl Vertex {
     // What a slot holds that no vertex stands in.
@@ -107,9 +101,9 @@ impl Vertex {
     {
         Vertex {
             place,
-            x: NONE,
-            y: NONE,
-            z: NONE,
+            x: Offset::default(),
+            y: Offset::default(),
+            z: Offset::default(),
         }
     }
 }

@@ -36,6 +36,7 @@ impl<'a> Job<'a> {
         if bytes.len() > LONGEST {
             return Err(Refusal::Length);
         }
+        // Each byte of the header by name, as the format has them.
         let [b0, b1, b2, b3, b4, rest @ ..] = bytes else {
             return Err(Refusal::Length);
         };

@@ -1,6 +1,7 @@
 // Traces the contours of a scanned slice: a job on standard input, its segments on standard output.
 #![tactic(auto)]
 
+use arrayvec::ArrayVec;
 use block::packed::Packed;
 use block::refusal::Refusal;
 use cell::level::Level;
@@ -15,7 +16,7 @@ use std::io;
 use std::io::Read;
 
 // One byte more than a job has, so that a longer input is seen to be longer.
-const ROOM: usize = 1025;
+const ROOM: usize = job::LONGEST + 1;
 
 // Why a run ends early.
 enum Stop {
@@ -36,12 +37,9 @@ impl From<io::Error> for Stop {
 }
 
 fn main(rt: HostRuntime) -> io::Result<()> {
-    // An array, as nothing here is on the heap.
-    let mut buffer = [0u8; ROOM];
-    let mut input = rt.stdin().take(ROOM as u64);
-    // No clause of `copy` bounds its count.
-    let length = (io::copy(&mut input, &mut &mut buffer[..])? as usize).min(ROOM);
-    match outline(&rt, &buffer[..length]) {
+    let mut bytes: ArrayVec<u8, ROOM> = ArrayVec::new();
+    io::copy(&mut rt.stdin().take(ROOM as u64), &mut bytes)?;
+    match outline(&rt, bytes.as_slice()) {
         Ok(()) => Ok(()),
         Err(Stop::Declined(refusal)) => println!(rt; "{refusal}"),
         Err(Stop::Failed(error)) => Err(error),

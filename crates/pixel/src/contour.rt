@@ -11,7 +11,7 @@ pub(crate) struct Contour {
     pub(crate) cut: Cut,
 }
 
-// The same with its vertices; the array has room for the most that a pixel has, since there is no heap.
+// The same with its vertices; the array has room for the most that a pixel has, since there is no heap, and `ArrayVec` is not `Copy`.
 #[derive(Clone, Copy)]
 pub struct PixelShape {
     pub(crate) contour: Contour,

@@ -4,7 +4,7 @@
 ghost use Rattle.kind.specs.Meaning.{Laws};
 ghost use Rattle.pixel_theory.specs.Kind.{pixel};
 
-// Pixels keep every law of kinds.
+// Pixels keep every law of kinds. Each kind has its own such function, since that is its theorem and no code is shared.
 pub fn pixels_keep_the_laws()
     ensures laws { Laws pixel }
 {

@@ -10,6 +10,7 @@ pub fn voxels_have_room()
     // Nothing to run: the contract is the theorem.
 }
 
+// A function beside that of voxels, since each is its theorem and no code is shared.
 // For pixels one cell slot, 5 vertex slots and 4 piece slots each suffice.
 pub fn pixels_have_room()
     ensures room { PixelsHaveRoom }

@@ -30,7 +30,7 @@ pub struct LocalTriangle {
 // The triangles of a voxel, and the local vertices that they name, the lowest first.
 #[derive(Clone, Copy)]
 pub struct Shell {
-    // Arrays with counts, as nothing may be allocated.
+    // Arrays with counts, as nothing may be allocated, and `ArrayVec` is not `Copy`.
     pub triangles: [LocalTriangle; MOST_TRIANGLES],
     pub triangle_count: usize,
     pub vertices: [u8; VERTICES],

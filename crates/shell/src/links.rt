@@ -40,6 +40,7 @@ impl Links {
         ensures done { take result out.new ≡ used_in self.now.masks }
         ensures few { result ≤ local_vertices }
     {
+        // `out` and `n` are a list: nothing may be allocated.
         let mut n = 0;
         for (v, mask) in self.masks.iter().enumerate() {
             if mask.count_ones() > 0 {
@@ -56,6 +57,7 @@ impl Links {
         ensures done { (ss : List Segment) → Means self.old.masks ss → Tame ss → map named (take result out.new) ≡ triangles ss }
         ensures few { result ≤ most_triangles }
     {
+        // A list again.
         let mut n = 0;
         while let Some(v) = self.apex() {
             out[n] = self.turn(v);
@@ -92,6 +94,7 @@ impl Links {
         }
     }
 
+    // Vertices are plain numbers here, as they are bits of the masks.
     // Strikes the segment between two vertices if it is in the set, and enters it if not.
     fn toggle(&mut self, u: usize, v: usize)
         requires { (u < local_vertices) × (v < local_vertices) }

@@ -41,11 +41,11 @@ fn kinds_and_blocks(rt: HostRuntime) -> Result<(), Refusal> {
         0x80, 0x00, 0x00, 0x20, 0x20, 0x00, 0x04, 0x01, 0x00, 0x40, 0x80,
     ];
     let job = Job::decode(&bytes)?;
-    assert!(rt; matches!(job.kind, CellKind::Voxel));
+    assert_eq!(rt; job.kind, CellKind::Voxel);
     assert_eq!(rt; job.block.sizes().z, 2);
     let pixels = with_header(0x00, 0x00, 0x00, 0x20, 0x20);
     let job = Job::decode(&pixels)?;
-    assert!(rt; matches!(job.kind, CellKind::Pixel));
+    assert_eq!(rt; job.kind, CellKind::Pixel);
     Ok(())
 }
 

@@ -1,3 +1,4 @@
 pub mod Borders
 pub mod Holding
 pub mod Locals
+pub mod Last

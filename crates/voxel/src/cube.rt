@@ -91,7 +91,7 @@ impl Cube {
         self.vertex(v).place
     }
 
-    // A local vertex: 0 to 11 on edges along x, y and z, from 12 on the centres of the faces.
+    // A local vertex: 0 to 11 on edges along x, y and z, from 12 on the centres of the faces. The only list of the edges.
     fn vertex(&self, v: usize) -> Vertex
         ensures answer { result ≡ local_vertex self.now.at (by_corner self.now.corners.heights) v }
     {
@@ -112,7 +112,7 @@ impl Cube {
         }
     }
 
-    // The crossing of the edge between two corners.
+    // The crossing of the edge between two corners, by numbers that `vertex` alone gives.
     fn crossing(&self, axis: Axis, low: usize, high: usize) -> Vertex
         requires low { low < 8 }
         requires high { high < 8 }

@@ -6,7 +6,7 @@ use cell::vertex::Vertex;
 use kind::triangle::Triangle;
 use shell::{MOST_TRIANGLES, VERTICES};
 
-// The arrays have room for the most that a voxel has, since there is no heap.
+// The arrays have room for the most that a voxel has, since there is no heap, and `ArrayVec` is not `Copy`.
 #[derive(Clone, Copy)]
 pub struct VoxelShape {
     pub(crate) cube: Cube,

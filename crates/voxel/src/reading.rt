@@ -30,7 +30,7 @@ pub(crate) fn corners(at: Point) -> [Point; CORNERS]
     requires { Near at }
     ensures answer { result ≡ corners at }
 {
-    // Written out, since the prover cannot look through `STEPS.map`.
+    // Written out: with `STEPS.map(..)` the proof did not close.
     [
         at.plus(STEPS[0]),
         at.plus(STEPS[1]),
