@@ -1,10 +1,7 @@
 // Sizes that every block may have.
-ghost use Rattle.std.specs.Prelude.{◌≡◌, ◌^◌, ◌<◌, ◌≤◌, true, false, MatchOption, Ok, Err, if◌then◌else◌};
-ghost use Rattle.block.specs.Faults.{fresh};
+ghost use Rattle.std.specs.Prelude.{◌≡◌, ◌^◌, ◌<◌, ◌≤◌, true, false, MatchOption};
 ghost use Rattle.block.specs.Lattice.{allowed, all_allowed, inside, count, index};
-ghost use Rattle.block.specs.declared.fault.Cause.TheVariants.{Outside};
 
-use crate::fault::{Cause, Fault};
 use crate::lattice::{Point, Sizes};
 
 const LONGEST: u32 = 1024;
@@ -35,15 +32,11 @@ impl Extent {
         self.sizes
     }
 
-    // The fault of a point outside, which every source answers first.
-    pub(crate) fn check(&self, p: Point) -> Result<(), Fault>
-        ensures answer { result ≡ if inside (sizes_of self.now) p then Ok tt else Err (fresh Outside p) }
+    // Each source answers the fault of a point outside by itself: a `Result` from here made a sample slower by half.
+    pub(crate) fn contains(&self, p: Point) -> bool
+        ensures answer { result ≡ inside (sizes_of self.now) p }
     {
-        if self.sizes.contains(p) {
-            Ok(())
-        } else {
-            Err(Fault::new(Cause::Outside, p))
-        }
+        self.sizes.contains(p)
     }
 
     // How many points there are.

@@ -5,7 +5,7 @@ ghost use Rattle.block.specs.Block.{lowest, highest};
 
 use crate::bits::{bits, cut_out};
 use crate::extent::Extent;
-use crate::fault::Fault;
+use crate::fault::{Cause, Fault};
 use crate::lattice::{Point, Sizes};
 use crate::refusal::Refusal;
 use crate::source::Source;
@@ -52,7 +52,9 @@ impl Source for Packed<'_> {
     }
 
     fn sample(&self, p: Point) -> Result<i32, Fault> {
-        self.extent.check(p)?;
+        if !self.extent.contains(p) {
+            return Err(Fault::new(Cause::Outside, p));
+        }
         Ok(read(self.samples, self.width, self.extent.index(p)))
     }
 }

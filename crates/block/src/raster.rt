@@ -43,7 +43,9 @@ impl Source for Raster<'_> {
     }
 
     fn sample(&self, p: Point) -> Result<i32, Fault> {
-        self.extent.check(p)?;
+        if !self.extent.contains(p) {
+            return Err(Fault::new(Cause::Outside, p));
+        }
         let v = self.samples[self.extent.index(p)];
         if v == i16::MIN {
             return Err(Fault::new(Cause::Missing, p));

@@ -5,7 +5,7 @@ ghost use Rattle.block.specs.Refusals.{told};
 ghost use Rattle.block.specs.Window.{window_block, window_told, lies_within, window_declined};
 
 use crate::extent::Extent;
-use crate::fault::Fault;
+use crate::fault::{Cause, Fault};
 use crate::lattice::{Point, Sizes};
 use crate::refusal::Refusal;
 use crate::source::Source;
@@ -67,7 +67,9 @@ impl<S: Source> Source for Window<S> {
     }
 
     fn sample(&self, p: Point) -> Result<i32, Fault> {
-        self.extent.check(p)?;
+        if !self.extent.contains(p) {
+            return Err(Fault::new(Cause::Outside, p));
+        }
         self.below
             .sample(self.origin.plus(p))
             .map_err(Fault::raised)
