@@ -1,5 +1,5 @@
 // A level, and the height of a point above it.
-ghost use Rattle.std.specs.Prelude.{◌≡◌, ◌^◌, ◌≤◌, true, unsigned_abs};
+ghost use Rattle.std.specs.Prelude.{◌≡◌, ◌^◌, ◌≤◌, true, pos, unsigned_abs};
 ghost use Rattle.cell.specs.Level.{most_sample, height as height_of, on_level, level_allowed, level_declined, height_rule};
 ghost use Rattle.block.specs.Refusals.{Outcome};
 ghost use Rattle.std.specs.Option.{option_map};
@@ -63,7 +63,9 @@ impl Level {
 
 impl Height {
     // That of a point which the level meets.
-    pub(crate) fn level() -> Height {
+    pub(crate) fn level() -> Height
+        ensures answer { result.value ≡ pos 0 }
+    {
         Height { value: 0 }
     }
 
