@@ -1,5 +1,5 @@
 -- The block that a packed block's bytes tell, and which bytes are declined.
-use Rattle.std.specs.Prelude.{ℕ, ◌+◌, ◌-◌, ◌*◌, ◌/◌, if◌then◌else◌, ◌&&◌, List, length, drop, pos, Some, None, Ok, Err, Option, ◌==◌, nat_lt}
+use Rattle.std.specs.Prelude.{ℕ, ◌+◌, ◌-◌, ◌*◌, ◌/◌, ◌%◌, if◌then◌else◌, ◌&&◌, List, length, drop, pos, Some, None, Ok, Err, Option, ◌==◌, nat_lt}
 use Rattle.block.specs.Bits.{field}
 use Rattle.block.specs.Block.{Block}
 use Rattle.block.specs.Extent.{sizes_of}
@@ -31,9 +31,9 @@ packed_block n w samples = record {
 abbrev pub block_of_bytes : List ℕ → Block
 block_of_bytes bytes = packed_block (header_sizes bytes) (header_width bytes) (drop 5 bytes)
 
--- the block that a packed source means
+-- the block that a packed source means; its width is held less one, in four bits
 abbrev pub packed_told : Packed → Block
-packed_told s = packed_block (sizes_of s.extent) s.width s.samples.now
+packed_told s = packed_block (sizes_of s.extent) (s.width_less_one % 16 + 1) s.samples.now
 
 -- the refusal of samples that take so many bits, if any: there are no more bytes than they need, and no bit behind them is set
 abbrev pub samples_declined : ℕ → ℕ → List ℕ → Option Told

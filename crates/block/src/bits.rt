@@ -1,5 +1,5 @@
 // Bit fields in a row of bytes, the most significant bit first.
-ghost use Rattle.std.specs.Prelude.{◌≡◌, ◌^◌, ◌<◌, ◌≤◌, min, slice_index};
+ghost use Rattle.std.specs.Prelude.{◌≡◌, ◌^◌, ◌<◌, ◌≤◌, [], ◌∷◌, ◌++◌, min, slice_index};
 ghost use Rattle.block.specs.Bits.{field, five, number_of};
 
 // A word holds the five bytes that 32 bits can lie in.
@@ -24,17 +24,30 @@ pub(crate) fn cut_out(bytes: &[u8], start: usize, width: u32) -> u32
     ((word(bytes, start / 8) >> behind) & ones) as u32
 }
 
-// The five bytes from `at` on, as one number.
+// The five bytes from `at` on, as one number. Nearly always all five are there, and then one test serves them.
 fn word(bytes: &[u8], at: usize) -> u64
     requires { at < 2 ^ 62 }
     ensures answer { result ≡ number_of (five bytes.now at) }
 {
-    // A loop, since `u64::from_be_bytes` of the five was slower by half.
-    let mut w = 0;
-    for i in 0..5 {
-        w = w * 256 + u64::from(byte(bytes, at + i));
+    match bytes.get(at..at + 5) {
+        Some([a, b, c, d, e]) => joined([*a, *b, *c, *d], *e),
+        _ => joined(
+            [
+                byte(bytes, at),
+                byte(bytes, at + 1),
+                byte(bytes, at + 2),
+                byte(bytes, at + 3),
+            ],
+            byte(bytes, at + 4),
+        ),
     }
-    w
+}
+
+// Four bytes and one more, as one number.
+fn joined(first: [u8; 4], last: u8) -> u64
+    ensures answer { result ≡ number_of (first ++ (last ∷ [])) }
+{
+    u64::from(u32::from_be_bytes(first)) * 256 + u64::from(last)
 }
 
 fn byte(bytes: &[u8], at: usize) -> u8

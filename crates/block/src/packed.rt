@@ -10,12 +10,12 @@ use crate::lattice::{Point, Sizes};
 use crate::refusal::Refusal;
 use crate::source::Source;
 
+// The width is held less one and read as four bits, so that it is always from 1 to 16; `Extent` says why by no ghost field.
 #[derive(Clone, Copy)]
 pub struct Packed<'a> {
     extent: Extent,
-    width: u32,
+    width_less_one: u8,
     samples: &'a [u8],
-    ghost width_fits: { (1 ≤ width) × (width ≤ 16) },
 }
 
 impl<'a> Packed<'a> {
@@ -33,7 +33,7 @@ impl<'a> Packed<'a> {
         header.check(samples)?;
         Ok(Packed {
             extent: header.extent,
-            width: header.width,
+            width_less_one: (header.width - 1) as u8,
             samples,
         })
     }
@@ -55,7 +55,8 @@ impl Source for Packed<'_> {
         if !self.extent.contains(p) {
             return Err(Fault::new(Cause::Outside, p));
         }
-        Ok(read(self.samples, self.width, self.extent.index(p)))
+        let width = u32::from(self.width_less_one) % 16 + 1;
+        Ok(read(self.samples, width, self.extent.index(p)))
     }
 }
 

@@ -1,6 +1,5 @@
 // A raster: a row of signed 16-bit samples, x fastest, then y, then z.
 ghost use Rattle.std.specs.Prelude.{◌≡◌, length};
-ghost use Rattle.block.specs.Lattice.{count};
 
 use crate::extent::Extent;
 use crate::fault::{Cause, Fault};
@@ -12,7 +11,6 @@ use crate::source::Source;
 pub struct Raster<'a> {
     extent: Extent,
     samples: &'a [i16],
-    ghost one_each: { length samples.now ≡ count extent.sizes },
 }
 
 impl<'a> Raster<'a> {
@@ -46,7 +44,8 @@ impl Source for Raster<'_> {
         if !self.extent.contains(p) {
             return Err(Fault::new(Cause::Outside, p));
         }
-        let v = self.samples[self.extent.index(p)];
+        // Each point of the block has one, which `new` saw to.
+        let v = self.samples.get(self.extent.index(p)).copied().unwrap_or(0);
         if v == i16::MIN {
             return Err(Fault::new(Cause::Missing, p));
         }
