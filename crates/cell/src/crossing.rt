@@ -58,3 +58,17 @@ impl Edge {
         }
     }
 }
+
+// The crossing of an edge, from the heights at its lower and its upper end, or nothing if the edge has none.
+pub fn crossing(low: Height, high: Height) -> Option<Offset>
+    ensures answer { result ≡ crossing_of low.value high.value }
+{
+    Edge { low, high }.crossing()
+}
+
+// Where an edge that has a crossing has it.
+pub fn along_edge(low: Height, high: Height) -> Offset
+    ensures answer { result ≡ along_edge low.value high.value }
+{
+    Edge { low, high }.offset()
+}
