@@ -6,7 +6,7 @@ ghost use Rattle.pixel_theory.specs.Kind.{pixel};
 
 use crate::contour::Contour;
 pub use crate::contour::PixelShape;
-use crate::square::{Square, is_pixel};
+use crate::square::{Square, is_pixel, pick};
 use block::lattice::{Point, Sizes};
 use block::refusal::Refusal;
 use block::source::Source;
@@ -60,7 +60,7 @@ impl Kind for Pixel {
     }
 
     fn corner(&self, sizes: Sizes, at: Point, n: usize) -> Option<Point> {
-        Square::new(sizes, at)?.corners().get(n).copied()
+        pick(Square::new(sizes, at)?.corners(), n)
     }
 
     fn read<S: Source>(&self, source: &S, level: Level, at: Point) -> Result<PixelShape, Refusal> {

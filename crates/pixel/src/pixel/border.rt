@@ -8,6 +8,7 @@ ghost use Rattle.pixel.specs.Contour.{contour_borders};
 ghost use Rattle.pixel_theory.specs.Kind.{pixel_sides};
 
 use crate::contour::Contour;
+use crate::square::pick;
 use cell::crossing::Edge;
 use cell::vertex::{Place, Side};
 use kind::joint::Joint;
@@ -25,14 +26,15 @@ impl Contour {
     pub(crate) fn side(&self, n: usize) -> Option<Side>
         ensures answer { result ≡ slice_get (map (λ s. s.0) (contour_borders self.now)) n }
     {
-        self.square.sides().get(n).copied()
+        pick(self.square.sides(), n)
     }
 
     // A side's only cut is its crossing.
     pub(crate) fn cut_of(&self, side: usize, n: usize) -> Option<Joint>
         ensures answer { option_map places_in result ≡ cut_at (contour_borders self.now) side n }
     {
-        let (side, edge) = self.borders().get(side).copied()?;
+        let edge = pick(self.face.edges(), side)?;
+        let side = self.side(side)?;
         if n != 0 || !edge.is_crossed() {
             return None;
         }
