@@ -38,11 +38,19 @@ pub const FACES: [VoxelFace; 6] = [
 impl VoxelFace {
     ghost use Rattle.shell.specs.Table.{drawn, drawn_faces, placed_of};
 
-    // The face at a place, or nothing past the last.
+    // The face at a place, or nothing past the last. One by one: `FACES.get(n)` builds the whole table at each call.
     pub fn numbered(n: usize) -> Option<VoxelFace>
         ensures answer { option_map drawn result ≡ slice_get drawn_faces n }
     {
-        FACES.get(n).copied()
+        match n {
+            0 => Some(FACES[0]),
+            1 => Some(FACES[1]),
+            2 => Some(FACES[2]),
+            3 => Some(FACES[3]),
+            4 => Some(FACES[4]),
+            5 => Some(FACES[5]),
+            _ => None,
+        }
     }
 
     // The number in the voxel of a point of the face.

@@ -1,10 +1,6 @@
 // The triangles of a voxel, from the heights at its corners.
 #![tactic(auto)]
 
-ghost use Rattle.std.specs.Prelude.{◌≤◌};
-ghost use Rattle.clipping.specs.Faces.{local_vertices};
-ghost use Rattle.clipping.specs.Laws.{most_triangles};
-
 pub mod corners;
 pub mod face;
 mod links;
@@ -35,6 +31,4 @@ pub struct Shell {
     pub triangle_count: usize,
     pub vertices: [u8; VERTICES],
     pub vertex_count: usize,
-    ghost triangles_fit: { triangle_count ≤ most_triangles },
-    ghost vertices_fit: { vertex_count ≤ local_vertices },
 }

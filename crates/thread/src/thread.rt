@@ -96,7 +96,12 @@ impl Kind for Thread {
         if !is_bead(sizes, at) {
             return None;
         }
-        ends(at).get(n).copied()
+        let [first, second] = ends(at);
+        match n {
+            0 => Some(first),
+            1 => Some(second),
+            _ => None,
+        }
     }
 
     fn read<S: Source>(&self, source: &S, level: Level, at: Point) -> Result<Bead, Refusal> {

@@ -3,19 +3,24 @@ ghost use Rattle.std.specs.Prelude.{◌≡◌, ◌+◌, ◌<◌, ◌≤◌, [], 
 ghost use Rattle.std.specs.List.{slice_get};
 ghost use Rattle.std.specs.Option.{option_map};
 ghost use Rattle.block.specs.Refusals.{Outcome};
+ghost use Rattle.cell.specs.Cuts.{segments_in};
+ghost use Rattle.cell.specs.Face.{face_segments};
+ghost use Rattle.clipping.specs.Faces.{on_face};
+ghost use Rattle.shell.specs.Table.{placed_of};
 ghost use Rattle.kind.specs.Meaning.{cell_declined};
 ghost use Rattle.kind.specs.Shapes.{places_in, cut_at};
 ghost use Rattle.shell.specs.Corners.{by_corner};
 ghost use Rattle.voxel_theory.specs.Voxel.{voxel, place_of, sides};
-ghost use Rattle.voxel.specs.Local.{corner_at, edge_vertex, centre_at, local_vertex, borders_of};
+ghost use Rattle.voxel.specs.Local.{edge_vertex, centre_at, local_vertex, borders_of};
 ghost use Rattle.voxel.specs.Reading.{Near};
 
-use crate::reading::{STEPS, corners, is_voxel};
+use crate::reading::{corner, corners, is_voxel};
 use block::lattice::Point;
 use block::refusal::Refusal;
 use block::source::Source;
 use cell::corner::heights_at;
 use cell::crossing::Edge;
+use cell::face::Cut;
 use cell::level::Level;
 use cell::vertex::{Axis, Place, Side, Vertex};
 use kind::joint::Joint;
@@ -68,7 +73,7 @@ impl Cube {
         let face = VoxelFace::numbered(n)?;
         Some(Side {
             axis: face.axis,
-            point: self.corner(face.c00),
+            point: corner(self.at, face.c00),
         })
     }
 
@@ -77,11 +82,18 @@ impl Cube {
         ensures answer { option_map places_in result ≡ cut_at (borders_of self.now.at (by_corner self.now.corners.heights)) side n }
     {
         let face = VoxelFace::numbered(side)?;
-        let (p, q) = self.corners.cut(&face).segment(n)?;
+        let (p, q) = self.cut_along(&face).segment(n)?;
         Some(Joint {
             first: self.place(face.point(p)),
             second: Some(self.place(face.point(q))),
         })
+    }
+
+    // The cut of a side.
+    fn cut_along(&self, side: &VoxelFace) -> Cut
+        ensures answer { segments_in result ≡ on_face face_segments (by_corner self.now.corners.heights) (placed_of side.now) }
+    {
+        self.corners.cut(side)
     }
 
     fn place(&self, v: usize) -> Place
@@ -122,7 +134,7 @@ impl Cube {
             low: self.corners.heights[low],
             high: self.corners.heights[high],
         };
-        Vertex::on_edge(axis, self.corner(low), edge.offset())
+        Vertex::on_edge(axis, corner(self.at, low), edge.offset())
     }
 
     // The centre of the face at a place; past the last, that of the last, since `vertex` answers for any number.
@@ -133,16 +145,9 @@ impl Cube {
         let centre = self.corners.face(&face).centre_offsets();
         Vertex::in_face(
             face.axis,
-            self.corner(face.c00),
+            corner(self.at, face.c00),
             centre.first,
             centre.second,
         )
-    }
-
-    fn corner(&self, k: usize) -> Point
-        requires { k < 8 }
-        ensures answer { result ≡ corner_at self.now.at k }
-    {
-        self.at.plus(STEPS[k])
     }
 }

@@ -10,7 +10,7 @@ ghost use Rattle.voxel_theory.specs.Voxel.{voxel};
 
 use crate::cube::Cube;
 use crate::held::VoxelShape;
-use crate::reading::{corners, is_voxel};
+use crate::reading::{corner, is_voxel};
 use block::lattice::{Point, Sizes};
 use block::refusal::Refusal;
 use block::source::Source;
@@ -19,7 +19,7 @@ use cell::vertex::{Side, Vertex};
 use kind::joint::Joint;
 use kind::kind::{Kind, Shape};
 use kind::triangle::Triangle;
-use shell::{LocalTriangle, MOST_TRIANGLES};
+use shell::{CORNERS, LocalTriangle, MOST_TRIANGLES};
 
 #[derive(Clone, Copy)]
 pub struct Voxel;
@@ -64,8 +64,8 @@ impl Kind for Voxel {
     }
 
     fn corner(&self, sizes: Sizes, at: Point, n: usize) -> Option<Point> {
-        if is_voxel(sizes, at) {
-            corners(at).get(n).copied()
+        if is_voxel(sizes, at) && n < CORNERS {
+            Some(corner(at, n))
         } else {
             None
         }

@@ -13,6 +13,6 @@ returns c =
     record {
       answer =
           (λ i. Some (first i ∷ second i ∷ []))
-          ∙ cut_is s.at (by_corner s.corners.heights) c.in_ok-face.face c.args.side c.args.n (segments_in c.cut.result) (Some (c.in_ok-p.p, c.in_ok-p.q))
-          c.in_ok-face.ensures.answer c.cut.ensures.answer c.in_ok-p.ensures.answer;
+          ∙ cut_is s.at (by_corner s.corners.heights) c.in_ok-face.face c.args.side c.args.n (segments_in c.cut_along.result) (Some (c.in_ok-p.p, c.in_ok-p.q))
+          c.in_ok-face.ensures.answer c.cut_along.ensures.answer c.in_ok-p.ensures.answer;
     }
