@@ -1,7 +1,6 @@
 // Traces the contours of a scanned slice: a job on standard input, its segments on standard output.
 #![tactic(auto)]
 
-use arrayvec::ArrayVec;
 use block::packed::Packed;
 use block::refusal::Refusal;
 use cell::level::Level;
@@ -37,9 +36,11 @@ impl From<io::Error> for Stop {
 }
 
 fn main(rt: HostRuntime) -> io::Result<()> {
-    let mut bytes: ArrayVec<u8, ROOM> = ArrayVec::new();
-    io::copy(&mut rt.stdin().take(ROOM as u64), &mut bytes)?;
-    match outline(&rt, bytes.as_slice()) {
+    let mut buffer = [0u8; ROOM];
+    let mut input = rt.stdin().take(ROOM as u64);
+    // No clause of `copy` bounds its count. An `ArrayVec` would keep it, but nothing else here stands on a ported crate.
+    let length = (io::copy(&mut input, &mut &mut buffer[..])? as usize).min(ROOM);
+    match outline(&rt, &buffer[..length]) {
         Ok(()) => Ok(()),
         Err(Stop::Declined(refusal)) => println!(rt; "{refusal}"),
         Err(Stop::Failed(error)) => Err(error),

@@ -1,5 +1,5 @@
-use crate::common::{point, refusal, sizes};
-use block::fault::{Cause, Fault};
+use crate::common::{fresh, point, refusal, sizes};
+use block::fault::Cause;
 use block::raster::Raster;
 use block::refusal::Refusal;
 use block::source::Source;
@@ -50,8 +50,8 @@ fn storage_order_and_faults(rt: HostRuntime) -> Result<(), Refusal> {
     assert_eq!(rt; raster.sample(point(0, 0, 1)), Ok(16));
     assert_eq!(rt; raster.sample(point(1, 1, 1)), Ok(-32767));
     let last = point(2, 1, 1);
-    assert_eq!(rt; raster.sample(last), Err(Fault::new(Cause::Missing, last)));
+    assert_eq!(rt; raster.sample(last), Err(fresh(Cause::Missing, last)));
     let past = point(3, 0, 0);
-    assert_eq!(rt; raster.sample(past), Err(Fault::new(Cause::Outside, past)));
+    assert_eq!(rt; raster.sample(past), Err(fresh(Cause::Outside, past)));
     Ok(())
 }

@@ -1,4 +1,4 @@
-use crate::common::{point, refusal, sizes};
+use crate::common::{fresh, point, refusal, sizes};
 use block::fault::{Cause, Fault};
 use block::lattice::{Point, Sizes};
 use block::raster::Raster;
@@ -58,7 +58,7 @@ fn a_fault_through_two_windows(rt: HostRuntime) -> Result<(), Refusal> {
     assert_eq!(rt; outer.sample(point(0, 0, 0)), Err(missing));
     // A point outside the window is the window's own fault, although the block below has it.
     let past = point(1, 0, 0);
-    assert_eq!(rt; outer.sample(past), Err(Fault::new(Cause::Outside, past)));
+    assert_eq!(rt; outer.sample(past), Err(fresh(Cause::Outside, past)));
     Ok(())
 }
 
