@@ -1,4 +1,4 @@
-// Ways in which a caller may hold a source or a shell: each has a proof only while these types have no ghost field.
+// Ways in which a caller may hold a source or a shell. They have a proof only while these types have no ghost field.
 use crate::common::sizes;
 use block::packed::Packed;
 use block::raster::Raster;
@@ -37,7 +37,7 @@ fn started(mut scan: Scan) -> u32 {
     *scan.tally
 }
 
-fn height(scan: &Scan) -> u32 {
+fn rows(scan: &Scan) -> u32 {
     scan.source.sizes().y
 }
 
@@ -60,7 +60,7 @@ fn sources_beside_a_loan(rt: HostRuntime) -> Result<(), Refusal> {
         source: raster,
         tally: &mut n,
     };
-    assert_eq!(rt; height(&scan), 2);
+    assert_eq!(rt; rows(&scan), 2);
     assert_eq!(rt; started(scan), 3);
     Ok(())
 }

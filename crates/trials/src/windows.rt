@@ -74,8 +74,8 @@ fn samples_through_a_window(rt: HostRuntime) -> Result<(), Refusal> {
 
 #[test]
 fn the_count_of_layers_stops_at_255(rt: HostRuntime) {
-    let fresh = Fault::new(Cause::Missing, point(0, 0, 0));
+    let fault = fresh(Cause::Missing, point(0, 0, 0));
     for layers in [254, 255] {
-        assert_eq!(rt; Fault { layers, ..fresh }.raised().layers, 255);
+        assert_eq!(rt; Fault { layers, ..fault }.raised().layers, 255);
     }
 }
